@@ -2,6 +2,7 @@ pub mod FormsLemmas
 pub mod LexLemmas
 pub mod ReaderLemmas
 pub mod SignsLemmas
+pub mod SpellingLemmas
 pub mod StoreLemmas
 pub mod TotalLemmas
 pub mod NaturalLemmas

@@ -1,5 +1,5 @@
 //! Spellings in a buffer, each with a count behind it.
-ghost use Rattle.std.specs.Prelude.{◌≡◌, ◌+◌, ◌*◌, ◌<◌, ◌≤◌, ◌++◌, length, string_bytes, string_len, encode_utf8_all, IsTrue, IfSome, OnOk};
+ghost use Rattle.std.specs.Prelude.{◌≡◌, ◌+◌, ◌*◌, ◌<◌, ◌≤◌, ◌++◌, length, string_bytes, string_len, encode_utf8_all, IsTrue, IfSome, OnOk, is_some};
 ghost use Rattle.pi_lex.specs.Spans.{spelled_at, IsCounted};
 
 use std::alloc::AllocError;
@@ -22,6 +22,7 @@ pub(crate) fn seat_of(spelling: &[char]) -> usize
 pub(crate) fn stands_at(buffer: &str, place: usize, spelling: &[char]) -> bool
     ensures counted { IsTrue result → IsCounted buffer.now place }
     ensures spelled { IsTrue result → spelled_at buffer.now place ≡ encode_utf8_all spelling.now }
+    ensures found { IsCounted buffer.now place → spelled_at buffer.now place ≡ encode_utf8_all spelling.now → IsTrue result }
 {
     match counted_at(buffer, place) {
         Some(found) => is_spelled(found, spelling),
@@ -31,7 +32,8 @@ pub(crate) fn stands_at(buffer: &str, place: usize, spelling: &[char]) -> bool
 
 /// So many bytes in front of this place as the byte there says, where these are whole characters.
 fn counted_at(buffer: &str, place: usize) -> Option<&str>
-    ensures { IfSome result (λ found. IsCounted buffer.now place × (found.now ≡ spelled_at buffer.now place)) }
+    ensures some { IfSome result (λ found. IsCounted buffer.now place × (found.now ≡ spelled_at buffer.now place)) }
+    ensures found { IsCounted buffer.now place → IsTrue (is_some result) }
 {
     if place >= buffer.len() {
         return None;
@@ -50,7 +52,8 @@ fn counted_at(buffer: &str, place: usize) -> Option<&str>
 
 /// Whether these are the characters of the text.
 fn is_spelled(text: &str, spelling: &[char]) -> bool
-    ensures { IsTrue result → text.now ≡ encode_utf8_all spelling.now }
+    ensures same { IsTrue result → text.now ≡ encode_utf8_all spelling.now }
+    ensures found { text.now ≡ encode_utf8_all spelling.now → IsTrue result }
 {
     let mut rest = text.chars();
     for c in spelling {
