@@ -11,7 +11,7 @@ use Rattle.pi_constraints.specs.declared.domain.TheConstants.{MAX_VALUE}
 use Rattle.pi_constraints.specs.Domain.{IsWithinBounds, IsDomain, has_value, numbers_from, values_of}
 use Rattle.pi_constraints.proofs.DomainLemmas.{gap_is}
 use Rattle.pi_constraints.proofs.ExtremeLemmas.{ends_below, AscendFrom-get_or, has_value-found}
-use Rattle.pi_filters.specs.Ends.{greatest_of}
+use Rattle.pi_prop_spec.specs.Ends.{greatest_of}
 use Rattle.pi_constraints.specs.declared.event.Event.{Event}
 use Rattle.pi_settling.specs.Events.{lost_values}
 use Rattle.pi_agent.specs.Lost.{excluded, lost_from}

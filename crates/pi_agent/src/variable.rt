@@ -1,7 +1,7 @@
 //! The events of one variable.
 ghost use Rattle.std.specs.Prelude.{◌≡◌, ◌++◌, IfOk};
 ghost use Rattle.std.specs.Option.{option_copied};
-ghost use Rattle.pi_filters.specs.Ends.{least_of, greatest_of};
+ghost use Rattle.pi_prop_spec.specs.Ends.{least_of, greatest_of};
 ghost use Rattle.pi_settling.specs.Events.{variable_events, domain_events, ins_events, bound_events, excluded_events, same_ends};
 
 use crate::losses::push_lost;

@@ -35,7 +35,8 @@ fn wake_agents<S: StateStore>(
     event: &Event,
     woken: &mut Activations,
 ) -> Result<(), AllocError>
-    ensures { IfOk result (λ _. IsAcyclic (bindings (S.seen s.now).now.state) → woken.new ≡ woken.old ++ activations_from (bindings (S.seen s.now).now.state) event.now 0 (S.seen s.now).now.state.agents) }
+    ensures { IfOk result (λ _. IsAcyclic (bindings (S.seen s.now).now.state) →
+        woken.new ≡ woken.old ++ activations_from (bindings (S.seen s.now).now.state) event.now 0 (S.seen s.now).now.state.agents) }
 {
     for agent in 0..s.agents() {
         wake_agent(alloc, s, agent, event, woken)?;
@@ -51,7 +52,9 @@ fn wake_agent<S: StateStore>(
     event: &Event,
     woken: &mut Activations,
 ) -> Result<(), AllocError>
-    ensures { IfOk result (λ _. (a : Agent) → IsAcyclic (bindings (S.seen s.now).now.state) → slice_get (S.seen s.now).now.state.agents agent ≡ Some a → woken.new ≡ woken.old ++ cond a.alive (first_answered (bindings (S.seen s.now).now.state) event.now agent 0 a.watches) []) }
+    ensures { IfOk result (λ _. (a : Agent) → IsAcyclic (bindings (S.seen s.now).now.state) →
+        slice_get (S.seen s.now).now.state.agents agent ≡ Some a →
+        woken.new ≡ woken.old ++ cond a.alive (first_answered (bindings (S.seen s.now).now.state) event.now agent 0 a.watches) []) }
 {
     match s.agent(agent) {
         None => Ok(()),
@@ -70,7 +73,9 @@ fn wake<S: StateStore>(
     event: &Event,
     woken: &mut Activations,
 ) -> Result<(), AllocError>
-    ensures { IfOk result (λ _. (a : Agent) → IsAcyclic (bindings (S.seen s.now).now.state) → slice_get (S.seen s.now).now.state.agents agent ≡ Some a → woken.new ≡ woken.old ++ first_answered (bindings (S.seen s.now).now.state) event.now agent 0 a.watches) }
+    ensures { IfOk result (λ _. (a : Agent) → IsAcyclic (bindings (S.seen s.now).now.state) →
+        slice_get (S.seen s.now).now.state.agents agent ≡ Some a →
+        woken.new ≡ woken.old ++ first_answered (bindings (S.seen s.now).now.state) event.now agent 0 a.watches) }
 {
     let watches = s.watches(alloc, agent)?;
     let watches = watches.as_slice();
@@ -91,7 +96,8 @@ fn wake<S: StateStore>(
 
 /// Whether an event answers a pattern.
 fn answers<S: StateStore>(s: &S, event: &Event, watch: Watch) -> bool
-    ensures { (w : WatchTree) → IsAcyclic (bindings (S.seen s.now).now.state) → IsWatch (S.seen s.now) watch w → result ≡ is_some (answer_to (bindings (S.seen s.now).now.state) event.now w) }
+    ensures { (w : WatchTree) → IsAcyclic (bindings (S.seen s.now).now.state) → IsWatch (S.seen s.now) watch w →
+        result ≡ is_some (answer_to (bindings (S.seen s.now).now.state) event.now w) }
 {
     match event {
         Event::Ins(n) => match watch {

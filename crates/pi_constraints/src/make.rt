@@ -65,7 +65,8 @@ pub(crate) fn all_but(alloc: Global, n: i128) -> Result<Domain, AllocError>
 
 /// Puts the span of the integers from `lo` to `hi` within the bounds behind the others, where there is such an integer.
 fn push_clipped(spans: &mut Vec<Span>, lo: i128, hi: i128) -> Result<(), AllocError>
-    ensures ok { IfOk result (λ _. spans.new.items ≡ spans.old.items ++ overlap (record { lo = lo; hi = hi }) (record { lo = neg_ℤ MAX_VALUE; hi = MAX_VALUE })) }
+    ensures ok { IfOk result (λ _. spans.new.items ≡
+        spans.old.items ++ overlap (record { lo = lo; hi = hi }) (record { lo = neg_ℤ MAX_VALUE; hi = MAX_VALUE })) }
 {
     let lo = lo.max(i128::from(-MAX_VALUE));
     let hi = hi.min(i128::from(MAX_VALUE));

@@ -54,7 +54,8 @@ pub trait StateStore: Drop {
 
     /// A new variable.
     fn new_var(&mut self) -> Result<Ref, AllocError>
-        ensures ok { IfOk result (λ made. Gives (seen self.old) (seen self.new) (with_new (seen self.old).now.state) made (var (next (seen self.old).now.state))) }
+        ensures ok { IfOk result (λ made. Gives (seen self.old) (seen self.new) (with_new (seen self.old).now.state) made
+            (var (next (seen self.old).now.state))) }
         ensures err { OnErr result (Stays (seen self.old) (seen self.new)) };
 
     /// An integer.
@@ -70,7 +71,8 @@ pub trait StateStore: Drop {
     /// The compound with this name and these arguments.
     fn put_comp(&mut self, name: &str, args: &[Ref]) -> Result<Ref, AllocError>
         ensures stays { Stays (seen self.old) (seen self.new) }
-        ensures ok { IfOk result (λ made. (ts : Trees) → AreTerms (seen self.old) args.now ts → IsTerm (seen self.new) made (comp name.now ts)) };
+        ensures ok { IfOk result (λ made. (ts : Trees) → AreTerms (seen self.old) args.now ts →
+            IsTerm (seen self.new) made (comp name.now ts)) };
 
     /// The term of the variable with this number. It takes no memory.
     fn var_ref(&self, n: u64) -> Ref
@@ -79,13 +81,15 @@ pub trait StateStore: Drop {
     /// What a term is at its root, with bindings followed. No name has two numbers, so two atoms are equal exactly where
     /// their numbers are. It takes no memory.
     fn look(&self, r: Ref) -> Cell
-        ensures shows { (t : Tree) → IsTerm (seen self.now) r t → IsAcyclic (bindings (seen self.now).now.state) → ShowsCell (seen self.now) (followed (bindings (seen self.now).now.state) t) result }
+        ensures shows { (t : Tree) → IsTerm (seen self.now) r t → IsAcyclic (bindings (seen self.now).now.state) →
+            ShowsCell (seen self.now) (followed (bindings (seen self.now).now.state) t) result }
         ensures below { (q : Ref) (t : Tree) → IsTerm (seen self.now) q t → SpeaksBelow (next (seen self.now).now.state) t }
         ensures distinct { (j k : ℕ) (name : List ℕ) → IsName (seen self.now) j name → IsName (seen self.now) k name → j ≡ k };
 
     /// An argument of a compound, counted from 0. It takes no memory.
     fn arg(&self, r: Ref, i: u64) -> Ref
-        ensures { (t u : Tree) → IsTerm (seen self.now) r t → IsAcyclic (bindings (seen self.now).now.state) → arg_at (followed (bindings (seen self.now).now.state) t) i ≡ Some u → IsTerm (seen self.now) result u };
+        ensures { (t u : Tree) → IsTerm (seen self.now) r t → IsAcyclic (bindings (seen self.now).now.state) →
+            arg_at (followed (bindings (seen self.now).now.state) t) i ≡ Some u → IsTerm (seen self.now) result u };
 
     /// The name of an atom. It takes no memory.
     fn name(&self, atom: u64) -> &str
@@ -102,7 +106,8 @@ pub trait StateStore: Drop {
     /// Whether a term is the variable with this number, or a variable that is bound to it directly or through others. It
     /// takes no memory.
     fn leads_to(&self, r: Ref, v: u64) -> bool
-        ensures { (t : Tree) → IsTerm (seen self.now) r t → IsAcyclic (bindings (seen self.now).now.state) → (IsTrue result ↔ LeadsTo (bindings (seen self.now).now.state) t v) };
+        ensures { (t : Tree) → IsTerm (seen self.now) r t → IsAcyclic (bindings (seen self.now).now.state) →
+            (IsTrue result ↔ LeadsTo (bindings (seen self.now).now.state) t v) };
 
     /// Binds an unbound variable to a term in which it doesn't occur. Both are followed at their roots first.
     fn bind(&mut self, v: Ref, t: Ref) -> Result<(), AllocError>
@@ -112,7 +117,8 @@ pub trait StateStore: Drop {
 
     /// The domain of an unbound variable that has one.
     fn domain(&self, alloc: Global, v: Ref) -> Result<Option<Domain>, AllocError>
-        ensures { IfOk result (λ found. (t : Tree) → IsTerm (seen self.now) v t → IsAcyclic (bindings (seen self.now).now.state) → found ≡ domain_at_root (seen self.now).now.state (followed (bindings (seen self.now).now.state) t)) };
+        ensures { IfOk result (λ found. (t : Tree) → IsTerm (seen self.now) v t → IsAcyclic (bindings (seen self.now).now.state) →
+            found ≡ domain_at_root (seen self.now).now.state (followed (bindings (seen self.now).now.state) t)) };
 
     /// Gives an unbound variable a domain of two or more values.
     fn set_domain(&mut self, v: Ref, d: &Domain) -> Result<(), AllocError>
@@ -123,7 +129,8 @@ pub trait StateStore: Drop {
     /// One more constraint.
     fn post(&mut self, c: &Constraint) -> Result<(), AllocError>
         ensures keeps { Keeps (seen self.old) (seen self.new) }
-        ensures ok { IfOk result (λ _. MayPost (seen self.old).now.state c.now → Changes (seen self.old) (seen self.new) (with_constraint (seen self.old).now.state c.now)) }
+        ensures ok { IfOk result (λ _. MayPost (seen self.old).now.state c.now →
+            Changes (seen self.old) (seen self.new) (with_constraint (seen self.old).now.state c.now)) }
         ensures err { OnErr result (Stays (seen self.old) (seen self.new)) };
 
     /// How many constraints were posted. It takes no memory.
@@ -132,12 +139,14 @@ pub trait StateStore: Drop {
 
     /// The constraint with this number.
     fn constraint(&self, alloc: Global, i: u64) -> Result<Constraint, AllocError>
-        ensures { IfOk result (λ found. i < length (seen self.now).now.state.constraints → slice_get (seen self.now).now.state.constraints i ≡ Some found) };
+        ensures { IfOk result (λ found. i < length (seen self.now).now.state.constraints →
+            slice_get (seen self.now).now.state.constraints i ≡ Some found) };
 
     /// The numbers of the constraints in which this variable occurs, or one that is bound to it directly or through
     /// others; ascending.
     fn posted_on(&self, alloc: Global, v: u64) -> Result<Places, AllocError>
-        ensures { IfOk result (λ found. IsAcyclic (bindings (seen self.now).now.state) → v < next (seen self.now).now.state → Lists (IsPostedOn (seen self.now).now.state v) found) };
+        ensures { IfOk result (λ found. IsAcyclic (bindings (seen self.now).now.state) → v < next (seen self.now).now.state →
+            Lists (IsPostedOn (seen self.now).now.state v) found) };
 
     /// Makes a call an agent, by the number of the rule that applied, and answers the agent's number.
     fn suspend(&mut self, call: Ref, rule: u64, watches: &Watches) -> Result<u64, AllocError>
@@ -155,18 +164,22 @@ pub trait StateStore: Drop {
 
     /// The events that an agent waits for.
     fn watches(&self, alloc: Global, n: u64) -> Result<Watches, AllocError>
-        ensures { IfOk result (λ found. (a : Agent) → slice_get (seen self.now).now.state.agents n ≡ Some a → AreWatches (seen self.now) found a.watches) };
+        ensures { IfOk result (λ found. (a : Agent) → slice_get (seen self.now).now.state.agents n ≡ Some a →
+            AreWatches (seen self.now) found a.watches) };
 
     /// Ends an agent.
     fn retire(&mut self, n: u64) -> Result<(), AllocError>
         ensures keeps { Keeps (seen self.old) (seen self.new) }
-        ensures ok { IfOk result (λ _. n < length (seen self.old).now.state.agents → Changes (seen self.old) (seen self.new) (with_ended (seen self.old).now.state n)) }
+        ensures ok { IfOk result (λ _. n < length (seen self.old).now.state.agents →
+            Changes (seen self.old) (seen self.new) (with_ended (seen self.old).now.state n)) }
         ensures err { OnErr result (Stays (seen self.old) (seen self.new)) };
 
     /// One more activation, to be run after those that wait.
     fn wait(&mut self, a: &Activation) -> Result<(), AllocError>
         ensures keeps { Keeps (seen self.old) (seen self.new) }
-        ensures ok { IfOk result (λ _. IsActivation (seen self.old).now.state a.now → Changes (seen self.old) (seen self.new) (with_waiting (seen self.old).now.state ((seen self.old).now.state.waiting ++ a.now ∷ []))) }
+        ensures ok { IfOk result (λ _. IsActivation (seen self.old).now.state a.now →
+            Changes (seen self.old) (seen self.new) (with_waiting (seen self.old).now.state
+            ((seen self.old).now.state.waiting ++ a.now ∷ []))) }
         ensures err { OnErr result (Stays (seen self.old) (seen self.new)) };
 
     /// Takes the first activation that waits; None exactly where none waits.
@@ -186,14 +199,17 @@ pub trait StateStore: Drop {
 
     /// The variables that were unbound at a mark and are bound now or have another domain; ascending, each once.
     fn changed_since(&self, alloc: Global, m: &Self::Mark) -> Result<Places, AllocError>
-        ensures { IfOk result (λ found. IsGood (seen self.now) m.now → Lists (HasChanged ((seen self.now).at_mark m.now).state (seen self.now).now.state) found) };
+        ensures { IfOk result (λ found. IsGood (seen self.now) m.now →
+            Lists (HasChanged ((seen self.now).at_mark m.now).state (seen self.now).now.state) found) };
 
     /// The domain that a variable had at a mark at which it was unbound.
     fn domain_at(&self, alloc: Global, m: &Self::Mark, v: u64) -> Result<Option<Domain>, AllocError>
-        ensures { IfOk result (λ found. IsGood (seen self.now) m.now → IsUnbound ((seen self.now).at_mark m.now).state v → found ≡ domain_of ((seen self.now).at_mark m.now).state v) };
+        ensures { IfOk result (λ found. IsGood (seen self.now) m.now → IsUnbound ((seen self.now).at_mark m.now).state v →
+            found ≡ domain_of ((seen self.now).at_mark m.now).state v) };
 
     /// The term as it is written down, with bindings replaced throughout. `TooLarge` exactly where it has more than
     /// 16,777,216 cells.
     fn read_term(&self, alloc: Global, r: Ref) -> Result<Term, ReadStop>
-        ensures { (t : Tree) → IsTerm (seen self.now) r t → IsAcyclic (bindings (seen self.now).now.state) → ShowsRead (value (bindings (seen self.now).now.state) t) result };
+        ensures { (t : Tree) → IsTerm (seen self.now) r t → IsAcyclic (bindings (seen self.now).now.state) →
+            ShowsRead (value (bindings (seen self.now).now.state) t) result };
 }

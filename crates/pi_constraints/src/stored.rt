@@ -15,5 +15,6 @@ pub trait StoredDomains: StateStore {
 
     /// The span of a variable with this number, counted from 0.
     fn span(&self, n: u64, k: usize) -> Span
-        ensures { k < length (stored (Self.seen self.now).now.state n) → slice_get (stored (Self.seen self.now).now.state n) k ≡ Some result };
+        ensures { k < length (stored (Self.seen self.now).now.state n) →
+            slice_get (stored (Self.seen self.now).now.state n) k ≡ Some result };
 }

@@ -12,7 +12,8 @@ use pi_constraints::{Cell, Ref, StateStore};
 
 /// The integer that an argument is; any other term is of a wrong kind. It takes no memory.
 pub fn integer<S: StateStore>(s: &S, term: Ref) -> Result<i128, Stop>
-    ensures { (t : Tree) → IsAcyclic (bindings (S.seen s.now).now.state) → IsTerm (S.seen s.now) term t → ShowsSame (S.seen s.now) result (integer_then (S.seen s.now).now.state t (λ n. Ok n)) }
+    ensures { (t : Tree) → IsAcyclic (bindings (S.seen s.now).now.state) → IsTerm (S.seen s.now) term t →
+        ShowsSame (S.seen s.now) result (integer_then (S.seen s.now).now.state t (λ n. Ok n)) }
 {
     match s.look(term) {
         Cell::Int(n) => Ok(n),

@@ -18,7 +18,8 @@ use std::alloc::{AllocError, Global};
 /// The term that a fault raises: what it tells is copied, with variables numbered from 0 on. A copy past 16,777,216 cells
 /// is told as `term_too_large`. A User's Guide to Picat, 'Exceptions'; the numbers and the limit are own.
 pub fn ball_of<S: StateStore>(alloc: Global, s: &S, fault: Fault) -> Result<Term, AllocError>
-    ensures { IfOk result (λ made. (ball : Tree) → IsAcyclic (bindings (S.seen s.now).now.state) → IsBall (S.seen s.now) fault ball → made ≡ ball) }
+    ensures { IfOk result (λ made. (ball : Tree) → IsAcyclic (bindings (S.seen s.now).now.state) →
+        IsBall (S.seen s.now) fault ball → made ≡ ball) }
 {
     match fault {
         Fault::WrongKind(kind, term) => Ok(wrong_kind(alloc, s, kind, term)?),
@@ -35,7 +36,8 @@ pub fn ball_of<S: StateStore>(alloc: Global, s: &S, fault: Fault) -> Result<Term
 
 /// What `throw` raises.
 fn thrown_term<S: StateStore>(alloc: Global, s: &S, term: Ref) -> Result<Term, AllocError>
-    ensures { IfOk result (λ made. (t : Tree) → IsAcyclic (bindings (S.seen s.now).now.state) → IsTerm (S.seen s.now) term t → made ≡ thrown t (S.seen s.now).now.state) }
+    ensures { IfOk result (λ made. (t : Tree) → IsAcyclic (bindings (S.seen s.now).now.state) → IsTerm (S.seen s.now) term t →
+        made ≡ thrown t (S.seen s.now).now.state) }
 {
     match copied(alloc, s, term)? {
         Some(copy) => Ok(copy),
@@ -45,7 +47,8 @@ fn thrown_term<S: StateStore>(alloc: Global, s: &S, term: Ref) -> Result<Term, A
 
 /// The exception of a name that tells a term.
 fn exception<S: StateStore>(alloc: Global, s: &S, name: &str, term: Ref) -> Result<Term, AllocError>
-    ensures { IfOk result (λ made. (t : Tree) → IsAcyclic (bindings (S.seen s.now).now.state) → IsTerm (S.seen s.now) term t → made ≡ exception_with name.now t (S.seen s.now).now.state) }
+    ensures { IfOk result (λ made. (t : Tree) → IsAcyclic (bindings (S.seen s.now).now.state) → IsTerm (S.seen s.now) term t →
+        made ≡ exception_with name.now t (S.seen s.now).now.state) }
 {
     match copied(alloc, s, term)? {
         Some(copy) => Ok(Term::comp(alloc, name, &[copy])?),
@@ -60,7 +63,8 @@ fn wrong_kind<S: StateStore>(
     kind: Kind,
     term: Ref,
 ) -> Result<Term, AllocError>
-    ensures { IfOk result (λ made. (t : Tree) → IsAcyclic (bindings (S.seen s.now).now.state) → IsTerm (S.seen s.now) term t → made ≡ type_error (kind_name kind) t (S.seen s.now).now.state) }
+    ensures { IfOk result (λ made. (t : Tree) → IsAcyclic (bindings (S.seen s.now).now.state) → IsTerm (S.seen s.now) term t →
+        made ≡ type_error (kind_name kind) t (S.seen s.now).now.state) }
 {
     match copied(alloc, s, term)? {
         Some(copy) => {
@@ -113,7 +117,8 @@ fn too_large(alloc: Global) -> Result<Term, AllocError>
 
 /// A copy of a term outside of the store, with variables from 0 on; None exactly where it has more than 16,777,216 cells.
 fn copied<S: StateStore>(alloc: Global, s: &S, term: Ref) -> Result<Option<Term>, AllocError>
-    ensures { IfOk result (λ made. (t : Tree) → IsAcyclic (bindings (S.seen s.now).now.state) → IsTerm (S.seen s.now) term t → IsCopied (value (bindings (S.seen s.now).now.state) t) made) }
+    ensures { IfOk result (λ made. (t : Tree) → IsAcyclic (bindings (S.seen s.now).now.state) → IsTerm (S.seen s.now) term t →
+        IsCopied (value (bindings (S.seen s.now).now.state) t) made) }
 {
     match s.read_term(alloc, term) {
         Ok(read) => Ok(Some(read.renumbered(alloc)?)),

@@ -8,19 +8,19 @@ use Rattle.pi_constraints.specs.Store.{Terms}
 use Rattle.pi_core.specs.GoalTree.{GoalTree, no_goals, goal, nodes}
 use Rattle.pi_terms.specs.PatternTree.{PatternTrees, no_patterns, pattern}
 use Rattle.pi_core.specs.CoreTree.{ClauseTree, PredTree, pred_tree}
-use Rattle.pi_meaning.specs.Sound.{IsSound, IsSoundClause, pattern_count}
-use Rattle.pi_meaning.specs.Defined.{ClauseCallsDefined, ProgramCallsDefined, NamesAreFree}
+use Rattle.pi_meaning.specs.CoreMeaning.Sound.{IsSound, IsSoundClause, pattern_count}
+use Rattle.pi_meaning.specs.CoreMeaning.Defined.{ClauseCallsDefined, ProgramCallsDefined, NamesAreFree}
 use Rattle.pi_core.specs.declared.core_program.CorePred.{CorePred}
-use Rattle.pi_code.specs.declared.code.HeadTest.{HeadTest}
-use Rattle.pi_code.specs.declared.code.Rule.{Rule}
-use Rattle.pi_code.specs.declared.code.Predicate.{Predicate}
-use Rattle.pi_code.specs.declared.code.Code.{Code}
-use Rattle.pi_code.specs.Code.{Tables, preds_of, tables_of}
-use Rattle.pi_stands.specs.Here.{AreHere, last_here, more_here, value_here}
-use Rattle.pi_stands.specs.Stands.{AreTestsOf, NoneIsDeep, clause_block, IsGuardHere, IsRuleOf, IsPredicateOf, IsCodeOf}
-use Rattle.pi_code.specs.Laid.{tables_for, IsLaid}
-use Rattle.pi_code.specs.LaidRules.{TestsAt, IsGuardLaid, IsBodyEnd, IsRuleLaid, RulesAt, IsPredicateLaid, PredicatesAt, IsFilled}
-use Rattle.pi_stands.proofs.ReadsHere.{drop-got}
+use Rattle.pi_engine_code.specs.declared.code.HeadTest.{HeadTest}
+use Rattle.pi_engine_code.specs.declared.code.Rule.{Rule}
+use Rattle.pi_engine_code.specs.declared.code.Predicate.{Predicate}
+use Rattle.pi_engine_code.specs.declared.code.Code.{Code}
+use Rattle.pi_engine_code.specs.Code.{Tables, preds_of, tables_of}
+use Rattle.pi_engine_stands.specs.Here.{AreHere, last_here, more_here, value_here}
+use Rattle.pi_engine_stands.specs.Stands.{AreTestsOf, NoneIsDeep, clause_block, IsGuardHere, IsRuleOf, IsPredicateOf, IsCodeOf}
+use Rattle.pi_engine_code.specs.Laid.{tables_for, IsLaid}
+use Rattle.pi_engine_code.specs.LaidRules.{TestsAt, IsGuardLaid, IsBodyEnd, IsRuleLaid, RulesAt, IsPredicateLaid, PredicatesAt, IsFilled}
+use Rattle.pi_engine_stands.proofs.ReadsHere.{drop-got}
 use Rattle.pi_engine.proofs.LaidHere.{goal-here, value-here, have-numbers}
 use Rattle.pi_engine.proofs.NamedLaid.{named-stand}
 

@@ -8,23 +8,23 @@ use Rattle.pi_constraints.specs.Store.{Terms}
 use Rattle.pi_core.specs.GoalTree.{GoalTree, truth, fail, tick, call, apply, seq, alternatives, if_else, not, once, collect, count, catch, GoalTrees, no_goals, goal, subgoals, nodes}
 use Rattle.pi_core.specs.GoalCells.{kind_of, cell_of, flat}
 use Rattle.pi_core.specs.CoreTree.{pred_tree}
-use Rattle.pi_meaning.specs.Sound.{SlotsBelow, NamesBelow}
-use Rattle.pi_meaning.specs.Names.{is_call}
-use Rattle.pi_meaning.specs.Defined.{CallsDefined}
+use Rattle.pi_meaning.specs.CoreMeaning.Sound.{SlotsBelow, NamesBelow}
+use Rattle.pi_meaning.specs.Shared.Names.{is_call}
+use Rattle.pi_meaning.specs.CoreMeaning.Defined.{CallsDefined}
 use Rattle.pi_core.specs.declared.goal_node.GoalCell.{GoalCell}
 use Rattle.pi_core.specs.declared.goal_node.GoalKind.{GoalKind}
 use Rattle.pi_core.specs.declared.core_program.CorePred.{CorePred}
-use Rattle.pi_code.specs.declared.code.Node.{Node}
-use Rattle.pi_code.specs.declared.code.Step.{Step}
-use Rattle.pi_code.specs.declared.code.Code.{Code}
-use Rattle.pi_code.specs.Code.{Tables, node_kind, step_cell, operand_tree, operand_trees, arguments}
-use Rattle.pi_stands.specs.Here.{Block, AreReadable, NodeIsReadable, SaysLast, SayLast, LastOfAll, EachLast, IsHere, IsValueHere}
-use Rattle.pi_stands.specs.Stands.{HasNumber}
-use Rattle.pi_code.specs.Laid.{tables_for, IsNamed, IsNotBuiltIn, IsUnknown, IsEffectOf, IsNodeOf, OperandsAt, Marked, mark, marked, marked_seq, marked_each, IsStepFor, StepsAt, IsLaid, IsValueLaid, IsResolved, AreResolved}
-use Rattle.pi_builtin.specs.Resolved.{IsFunctionNamed}
-use Rattle.pi_code.proofs.LaidGoals.{goals-in, length-marked}
-use Rattle.pi_stands.proofs.ReadsHere.{drop-got, got-index, operand-reads, operands-read, operand-readable, operands-within, operands-readable}
-use Rattle.pi_stands.proofs.KnownGoals.{goal-known}
+use Rattle.pi_engine_code.specs.declared.code.Node.{Node}
+use Rattle.pi_engine_code.specs.declared.code.Step.{Step}
+use Rattle.pi_engine_code.specs.declared.code.Code.{Code}
+use Rattle.pi_engine_code.specs.Code.{Tables, node_kind, step_cell, operand_tree, operand_trees, arguments}
+use Rattle.pi_engine_stands.specs.Here.{Block, AreReadable, NodeIsReadable, SaysLast, SayLast, LastOfAll, EachLast, IsHere, IsValueHere}
+use Rattle.pi_engine_stands.specs.Stands.{HasNumber}
+use Rattle.pi_engine_code.specs.Laid.{tables_for, IsNamed, IsNotBuiltIn, IsUnknown, IsEffectOf, IsNodeOf, OperandsAt, Marked, mark, marked, marked_seq, marked_each, IsStepFor, StepsAt, IsLaid, IsValueLaid, IsResolved, AreResolved}
+use Rattle.pi_lib_builtin.specs.Resolved.{IsFunctionNamed}
+use Rattle.pi_engine_code.proofs.LaidGoals.{goals-in, length-marked}
+use Rattle.pi_engine_stands.proofs.ReadsHere.{drop-got, got-index, operand-reads, operands-read, operand-readable, operands-within, operands-readable}
+use Rattle.pi_engine_stands.proofs.KnownGoals.{goal-known}
 
 -- ---- nodes
 

@@ -11,17 +11,17 @@ use Rattle.pi_constraints.proofs.KeepsLemmas.{var-below}
 use Rattle.pi_core.specs.GoalTree.{GoalTree, truth, fail, tick, call, apply, seq, alternatives, if_else, not, once, collect, count, catch, subgoals}
 use Rattle.pi_core.specs.CoreTree.{PredTree, pred_tree, find_pred}
 use Rattle.pi_effects.specs.BuiltIns.{is_predicate, is_function}
-use Rattle.pi_meaning.specs.Names.{is_call, is_catch}
-use Rattle.pi_meaning.specs.Sound.{NamesBelow, SlotsBelow}
-use Rattle.pi_meaning.specs.Defined.{is_machine_predicate, CallsDefined}
-use Rattle.pi_meaning.specs.Instances.{is_called_by_name}
-use Rattle.pi_meaning.specs.NamedGoals.{slots_from, call_of_slot, call_of_slots, catch_of_slots}
-use Rattle.pi_meaning.proofs.NamesApart.{call-name, slots-count}
-use Rattle.pi_meaning.proofs.NamedLemmas.{NamedBy, by_catch, by_call, by_name, named-by}
-use Rattle.pi_code.specs.declared.code.Code.{Code}
-use Rattle.pi_code.specs.Code.{preds_of, tables_of}
-use Rattle.pi_code.specs.Callables.{IsPlaceOf, AreCallable}
-use Rattle.pi_stands.specs.Stands.{AreNamed}
+use Rattle.pi_meaning.specs.Shared.Names.{is_call, is_catch}
+use Rattle.pi_meaning.specs.CoreMeaning.Sound.{NamesBelow, SlotsBelow}
+use Rattle.pi_meaning.specs.CoreMeaning.Defined.{is_machine_predicate, CallsDefined}
+use Rattle.pi_meaning.specs.CoreMeaning.Instances.{is_called_by_name}
+use Rattle.pi_meaning.specs.Machine.NamedGoals.{slots_from, call_of_slot, call_of_slots, catch_of_slots}
+use Rattle.pi_meaning.proofs.Shared.NamesApart.{call-name, slots-count}
+use Rattle.pi_meaning.proofs.Machine.NamedLemmas.{NamedBy, by_catch, by_call, by_name, named-by}
+use Rattle.pi_engine_code.specs.declared.code.Code.{Code}
+use Rattle.pi_engine_code.specs.Code.{preds_of, tables_of}
+use Rattle.pi_engine_code.specs.Callables.{IsPlaceOf, AreCallable}
+use Rattle.pi_engine_stands.specs.Stands.{AreNamed}
 use Rattle.pi_engine.proofs.LaidHere.{goal-here}
 
 -- ---- what such a goal calls

@@ -1,32 +1,32 @@
 -- The turns of a call of `next`, and what the call comes to.
 use Rattle.std.proofs.Common.{Box, Global, ◌≡◌, ◌≢◌, ◌⊎◌, inl, inr, ℕ, List, [], ◌∷◌, ◌++◌, Some, refl, sym, ◌∙◌, ap, subst}
 use Rattle.pi_terms.specs.Tree.{Tree}
-use Rattle.pi_meaning.specs.View.{View}
-use Rattle.pi_meaning.specs.Trace.{Out, noted}
+use Rattle.pi_meaning.specs.Shared.View.{View}
+use Rattle.pi_meaning.specs.Traces.Trace.{Out, noted}
 use Rattle.pi_core.specs.declared.core_program.NameSlot.{NameSlot}
 use Rattle.pi_core.specs.declared.answer.Answer.{Answer}
-use Rattle.pi_code.specs.declared.code.Code.{Code}
+use Rattle.pi_engine_code.specs.declared.code.Code.{Code}
 use Rattle.pi_meaning.specs.declared.happening.Budget.{Budget}
 use Rattle.pi_meaning.specs.declared.happening.Happening.{Happening}
 use Rattle.pi_meaning.specs.declared.happening.Mode.{Mode}
-use Rattle.pi_arenas.specs.declared.run.End.{End as RunEnd}
-use Rattle.pi_arenas.specs.declared.run.Telling.{Telling}
-use Rattle.pi_arenas.specs.declared.run.Now.{Now}
+use Rattle.pi_engine_arenas.specs.declared.run.End.{End as RunEnd}
+use Rattle.pi_engine_arenas.specs.declared.run.Telling.{Telling}
+use Rattle.pi_engine_arenas.specs.declared.run.Now.{Now}
 use Rattle.pi_engine.specs.declared.turns.Outcome.{Outcome as CodeOutcome}
-use Rattle.pi_stands.specs.Answers.{AreNames}
-use Rattle.pi_meaning.specs.Budget.{Counts}
-use Rattle.pi_meaning.specs.Built.{AreOfRules}
-use Rattle.pi_meaning.specs.Configuration.{Config}
-use Rattle.pi_meaning.specs.Leads.{Leads}
-use Rattle.pi_stands.specs.Goes.{counted, IsAt, Goes, IsSpent, IsIn}
-use Rattle.pi_meaning.specs.Next.{Tells, some_ticks, NextIs}
-use Rattle.pi_stands.specs.Stands.{World, Loaded}
-use Rattle.pi_stands.specs.Views.{Fits}
+use Rattle.pi_engine_stands.specs.Answers.{AreNames}
+use Rattle.pi_meaning.specs.Machine.Budget.{Counts}
+use Rattle.pi_meaning.specs.Machine.Built.{AreOfRules}
+use Rattle.pi_meaning.specs.Machine.Configuration.{Config}
+use Rattle.pi_meaning.specs.Machine.Leads.{Leads}
+use Rattle.pi_engine_stands.specs.Goes.{counted, IsAt, Goes, IsSpent, IsIn}
+use Rattle.pi_meaning.specs.Machine.Next.{Tells, some_ticks, NextIs}
+use Rattle.pi_engine_stands.specs.Stands.{World, Loaded}
+use Rattle.pi_engine_stands.specs.Views.{Fits}
 use Rattle.pi_engine.specs.Seen.{MachineView, told_end, end_in, stopped}
 use Rattle.pi_engine.specs.Happens.{IsBuiltSoFar, IsRepeated}
 use Rattle.pi_engine.specs.Turns.{StepIs, IsRunning, NextComes, IsAnswered, RepeatsEnd, Lasts}
-use Rattle.pi_stands.proofs.GoalsGo.{none-counted}
-use Rattle.pi_meaning.proofs.LeadLemmas.{leads-none}
+use Rattle.pi_engine_stands.proofs.GoalsGo.{none-counted}
+use Rattle.pi_meaning.proofs.Machine.LeadLemmas.{leads-none}
 use Rattle.pi_engine.proofs.TurnsGo.{more-goes, answer-goes, told-goes}
 
 -- ---- where a run has ended

@@ -5,25 +5,25 @@ use Rattle.pi_constraints.specs.Value.{IsAcyclic}
 use Rattle.pi_constraints.specs.Store.{Terms, Moment, StoreView, Keeps, Stays, Marks, Returns}
 use Rattle.pi_core.specs.GoalTree.{GoalTree, no_goals, goal}
 use Rattle.pi_core.specs.CoreTree.{pred_tree}
-use Rattle.pi_meaning.specs.Sound.{IsSound, IsSoundQuery}
-use Rattle.pi_meaning.specs.Defined.{CallsDefined, ProgramCallsDefined, QueryCallsDefined, NamesAreFree}
+use Rattle.pi_meaning.specs.CoreMeaning.Sound.{IsSound, IsSoundQuery}
+use Rattle.pi_meaning.specs.CoreMeaning.Defined.{CallsDefined, ProgramCallsDefined, QueryCallsDefined, NamesAreFree}
 use Rattle.pi_constraints.specs.declared.store.Ref.{Ref}
 use Rattle.pi_core.specs.declared.core_program.CorePred.{CorePred}
 use Rattle.pi_core.specs.declared.core_program.NameSlot.{NameSlot}
 use Rattle.pi_constraints.proofs.KeepsLemmas.{empty-is-state}
 use Rattle.std.proofs.lemmas.List.{map-append}
-use Rattle.pi_code.specs.declared.code.Code.{Code}
-use Rattle.pi_arenas.specs.declared.blocks.Written.{Written}
-use Rattle.pi_arenas.specs.declared.run.Now.{Now}
-use Rattle.pi_code.specs.Code.{tables_of, preds_of}
-use Rattle.pi_arenas.specs.Arenas.{ArenasView, no_arenas}
-use Rattle.pi_stands.specs.Here.{Block, AreHeld, IsHere, last_here, answers}
-use Rattle.pi_meaning.specs.Shape.{open_level}
-use Rattle.pi_meaning.specs.Configuration.{config, going}
-use Rattle.pi_stands.specs.Stands.{Loaded, tables_in, steps_of, world, IsCodeOf, no_entries, Stands, NowIs, going_now}
-use Rattle.pi_code.specs.LaidRules.{IsFilled}
+use Rattle.pi_engine_code.specs.declared.code.Code.{Code}
+use Rattle.pi_engine_arenas.specs.declared.blocks.Written.{Written}
+use Rattle.pi_engine_arenas.specs.declared.run.Now.{Now}
+use Rattle.pi_engine_code.specs.Code.{tables_of, preds_of}
+use Rattle.pi_engine_arenas.specs.Arenas.{ArenasView, no_arenas}
+use Rattle.pi_engine_stands.specs.Here.{Block, AreHeld, IsHere, last_here, answers}
+use Rattle.pi_meaning.specs.Machine.Shape.{open_level}
+use Rattle.pi_meaning.specs.Machine.Configuration.{config, going}
+use Rattle.pi_engine_stands.specs.Stands.{Loaded, tables_in, steps_of, world, IsCodeOf, no_entries, Stands, NowIs, going_now}
+use Rattle.pi_engine_code.specs.LaidRules.{IsFilled}
 use Rattle.pi_engine.specs.Begins.{asked, loaded_with, Begins}
-use Rattle.pi_arenas.specs.Blocks.{BlocksView}
+use Rattle.pi_engine_arenas.specs.Blocks.{BlocksView}
 use Rattle.pi_engine.proofs.LaidHere.{goal-here}
 use Rattle.pi_engine.proofs.LaidCode.{code-stands}
 

@@ -3,38 +3,38 @@ use Rattle.std.proofs.Common.{◌≡◌, inl, ℕ, zero, suc, ◌+◌, ◌<◌, 
 use Rattle.std.specs.Prelude.{Contains}
 use Rattle.pi_terms.specs.Tree.{Tree}
 use Rattle.pi_constraints.specs.Store.{StoreView}
-use Rattle.pi_meaning.specs.View.{View}
-use Rattle.pi_meaning.specs.Instances.{no_later, whole}
+use Rattle.pi_meaning.specs.Shared.View.{View}
+use Rattle.pi_meaning.specs.CoreMeaning.Instances.{no_later, whole}
 use Rattle.pi_core.specs.CoreTree.{PredTree, QueryTree}
-use Rattle.pi_meaning.specs.Depth.{Spent}
-use Rattle.pi_meaning.specs.Trace.{End, Done, Raise, Tick, Load, Out, Emitted, noted, answered, count_ticks}
-use Rattle.pi_meaning.specs.Run.{Solution, IsRunUnder}
-use Rattle.pi_meaning.specs.Sound.{IsSoundQuery}
+use Rattle.pi_meaning.specs.Traces.Depth.{Spent}
+use Rattle.pi_meaning.specs.Traces.Trace.{End, Done, Raise, Tick, Load, Out, Emitted, noted, answered, count_ticks}
+use Rattle.pi_meaning.specs.CoreMeaning.Run.{Solution, IsRunUnder}
+use Rattle.pi_meaning.specs.CoreMeaning.Sound.{IsSoundQuery}
 use Rattle.pi_core.specs.declared.core_program.NameSlot.{NameSlot}
 use Rattle.pi_meaning.specs.declared.happening.Budget.{Budget}
 use Rattle.pi_meaning.specs.declared.happening.Happening.{Happening}
 use Rattle.pi_meaning.specs.declared.happening.Mode.{Mode}
-use Rattle.pi_arenas.specs.declared.run.End.{End as RunEnd}
-use Rattle.pi_arenas.specs.declared.run.Now.{Now}
-use Rattle.pi_arenas.specs.Arenas.{ArenasView}
-use Rattle.pi_stands.specs.Answers.{AreNames}
+use Rattle.pi_engine_arenas.specs.declared.run.End.{End as RunEnd}
+use Rattle.pi_engine_arenas.specs.declared.run.Now.{Now}
+use Rattle.pi_engine_arenas.specs.Arenas.{ArenasView}
+use Rattle.pi_engine_stands.specs.Answers.{AreNames}
 use Rattle.pi_engine.specs.Begins.{Begins}
-use Rattle.pi_meaning.specs.Built.{AreOfRules}
-use Rattle.pi_meaning.specs.Configuration.{Config}
-use Rattle.pi_meaning.specs.Budget.{AreStepsUsed, IsWorkUsed, IsInner}
-use Rattle.pi_stands.specs.Goes.{counted, HasNone, IsAt, IsSpent, IsIn}
-use Rattle.pi_meaning.specs.Leads.{Leads, IsAtEnd, IsAtTick}
-use Rattle.pi_meaning.specs.Next.{some_ticks}
+use Rattle.pi_meaning.specs.Machine.Built.{AreOfRules}
+use Rattle.pi_meaning.specs.Machine.Configuration.{Config}
+use Rattle.pi_meaning.specs.Machine.Budget.{AreStepsUsed, IsWorkUsed, IsInner}
+use Rattle.pi_engine_stands.specs.Goes.{counted, HasNone, IsAt, IsSpent, IsIn}
+use Rattle.pi_meaning.specs.Machine.Leads.{Leads, IsAtEnd, IsAtTick}
+use Rattle.pi_meaning.specs.Machine.Next.{some_ticks}
 use Rattle.pi_engine.specs.Seen.{MachineView, end_in, HasEnded, GoesOn, Fits, IsException}
 use Rattle.pi_engine.specs.Inside.{loaded_as, run_of, HasComeTo, IsPlaced}
 use Rattle.pi_engine.specs.Runs.{RunsTo, EndsWith}
 use Rattle.pi_engine.specs.Happens.{HappensByTicks, lasting}
-use Rattle.pi_meaning.specs.Step.{start}
+use Rattle.pi_meaning.specs.Machine.Step.{start}
 use Rattle.pi_engine.specs.Turns.{IsRunning, NextComes, Lasts}
-use Rattle.pi_stands.specs.Stands.{World, Stands}
-use Rattle.pi_stands.proofs.GoalsGo.{no-end}
-use Rattle.pi_meaning.proofs.LeadLemmas.{leads-none, leads-on, start-good}
-use Rattle.pi_meaning.proofs.RunLaws.{ended-run, spent-run, run-prefix}
+use Rattle.pi_engine_stands.specs.Stands.{World, Stands}
+use Rattle.pi_engine_stands.proofs.GoalsGo.{no-end}
+use Rattle.pi_meaning.proofs.Machine.LeadLemmas.{leads-none, leads-on, start-good}
+use Rattle.pi_meaning.proofs.Machine.RunLaws.{ended-run, spent-run, run-prefix}
 
 -- ---- Ticks behind events
 

@@ -1,17 +1,17 @@
 -- What a call of `next` comes to that adds Ticks alone, as one of all that it may come to.
 use Rattle.std.proofs.Common.{inl, ℕ, zero, suc, ◌+◌, List, [], ◌∷◌, ◌++◌, refl, sym, subst, append_assoc, arith}
-use Rattle.pi_meaning.specs.View.{View}
-use Rattle.pi_meaning.specs.Instances.{no_later, whole}
+use Rattle.pi_meaning.specs.Shared.View.{View}
+use Rattle.pi_meaning.specs.CoreMeaning.Instances.{no_later, whole}
 use Rattle.pi_core.specs.CoreTree.{PredTree, QueryTree}
-use Rattle.pi_meaning.specs.Depth.{Spent}
-use Rattle.pi_meaning.specs.Trace.{Raise, Tick, Out, Emitted, noted, answered, count_ticks}
-use Rattle.pi_meaning.specs.Run.{Solution, IsRunUnder}
+use Rattle.pi_meaning.specs.Traces.Depth.{Spent}
+use Rattle.pi_meaning.specs.Traces.Trace.{Raise, Tick, Out, Emitted, noted, answered, count_ticks}
+use Rattle.pi_meaning.specs.CoreMeaning.Run.{Solution, IsRunUnder}
 use Rattle.pi_meaning.specs.declared.happening.Budget.{Budget}
 use Rattle.pi_meaning.specs.declared.happening.Happening.{Happening}
 use Rattle.pi_meaning.specs.declared.happening.Mode.{Mode}
-use Rattle.pi_meaning.specs.Budget.{Counts}
-use Rattle.pi_meaning.specs.Next.{some_ticks}
-use Rattle.pi_stands.specs.Goes.{counted}
+use Rattle.pi_meaning.specs.Machine.Budget.{Counts}
+use Rattle.pi_meaning.specs.Machine.Next.{some_ticks}
+use Rattle.pi_engine_stands.specs.Goes.{counted}
 use Rattle.pi_engine.specs.Seen.{MachineView, mode_of}
 use Rattle.pi_engine.specs.Runs.{RunsTo}
 use Rattle.pi_engine.specs.Happens.{AreTicksAndLoads, AreCutOff, Adds, Comes, ComesByTicks, StopsBefore, Happens, HappensByTicks}

@@ -5,33 +5,33 @@ use Rattle.pi_terms.specs.Tree.{Tree}
 use Rattle.pi_terms.specs.Places.{Places}
 use Rattle.pi_constraints.specs.State.{State}
 use Rattle.pi_core.specs.GoalTree.{GoalTrees}
-use Rattle.pi_meaning.specs.View.{View}
+use Rattle.pi_meaning.specs.Shared.View.{View}
 use Rattle.pi_core.specs.CoreTree.{PredTree}
-use Rattle.pi_meaning.specs.Trace.{End, Done, Raise, Abort, Miss, Deep, Tick, Out, noted, Emitted, answered}
-use Rattle.pi_meaning.specs.Run.{Solution}
+use Rattle.pi_meaning.specs.Traces.Trace.{End, Done, Raise, Abort, Miss, Deep, Tick, Out, noted, Emitted, answered}
+use Rattle.pi_meaning.specs.CoreMeaning.Run.{Solution}
 use Rattle.pi_core.specs.declared.core_program.NameSlot.{NameSlot}
 use Rattle.pi_core.specs.declared.answer.Answer.{Answer}
 use Rattle.pi_meaning.specs.declared.happening.Budget.{Budget}
 use Rattle.pi_meaning.specs.declared.happening.Mode.{Mode}
-use Rattle.pi_arenas.specs.declared.run.End.{End as RunEnd}
-use Rattle.pi_arenas.specs.declared.run.Telling.{Telling}
-use Rattle.pi_arenas.specs.declared.run.Now.{Now}
+use Rattle.pi_engine_arenas.specs.declared.run.End.{End as RunEnd}
+use Rattle.pi_engine_arenas.specs.declared.run.Telling.{Telling}
+use Rattle.pi_engine_arenas.specs.declared.run.Now.{Now}
 use Rattle.pi_engine.specs.declared.turns.Outcome.{Outcome as CodeOutcome}
-use Rattle.pi_meaning.specs.Budget.{Counts}
-use Rattle.pi_meaning.specs.Built.{AreOfRules}
-use Rattle.pi_meaning.specs.Configuration.{Frame, Config, config, going, telling, failed, raising, Now as NowData}
-use Rattle.pi_stands.specs.Fails.{IsEnded, ComesTo, Fails}
-use Rattle.pi_stands.specs.Raises.{Raises}
-use Rattle.pi_stands.specs.Goes.{counted, IsAt, Goes, IsSpent, TicksOn, IsIn}
-use Rattle.pi_meaning.specs.Leads.{Leads}
-use Rattle.pi_meaning.specs.Next.{Tells, some_ticks}
-use Rattle.pi_meaning.specs.Shape.{IsGood}
-use Rattle.pi_stands.specs.Stands.{World, GoingIs, NowIs, going_now, telling_now, failing_now, raising_now, Stands}
-use Rattle.pi_meaning.specs.Step.{Outcome, silently, with_tick, quietly, deeper, writing, answering, ending, fail_step, raise_step, step}
+use Rattle.pi_meaning.specs.Machine.Budget.{Counts}
+use Rattle.pi_meaning.specs.Machine.Built.{AreOfRules}
+use Rattle.pi_meaning.specs.Machine.Configuration.{Frame, Config, config, going, telling, failed, raising, Now as NowData}
+use Rattle.pi_engine_stands.specs.Fails.{IsEnded, ComesTo, Fails}
+use Rattle.pi_engine_stands.specs.Raises.{Raises}
+use Rattle.pi_engine_stands.specs.Goes.{counted, IsAt, Goes, IsSpent, TicksOn, IsIn}
+use Rattle.pi_meaning.specs.Machine.Leads.{Leads}
+use Rattle.pi_meaning.specs.Machine.Next.{Tells, some_ticks}
+use Rattle.pi_meaning.specs.Machine.Shape.{IsGood}
+use Rattle.pi_engine_stands.specs.Stands.{World, GoingIs, NowIs, going_now, telling_now, failing_now, raising_now, Stands}
+use Rattle.pi_meaning.specs.Machine.Step.{Outcome, silently, with_tick, quietly, deeper, writing, answering, ending, fail_step, raise_step, step}
 use Rattle.pi_engine.specs.Turns.{StepIs, StepStops}
-use Rattle.pi_stands.proofs.GoalsGo.{is-at, none-counted, unspent, silent-goes}
-use Rattle.pi_meaning.proofs.LeadLemmas.{leads-none, leads-on, step-ends, step-writes, good-writing}
-use Rattle.pi_stands.proofs.PointsDone.{GoesSilently}
+use Rattle.pi_engine_stands.proofs.GoalsGo.{is-at, none-counted, unspent, silent-goes}
+use Rattle.pi_meaning.proofs.Machine.LeadLemmas.{leads-none, leads-on, step-ends, step-writes, good-writing}
+use Rattle.pi_engine_stands.proofs.PointsDone.{GoesSilently}
 
 -- ---- no further answer, and exceptions
 

@@ -5,11 +5,11 @@ use Rattle.pi_core.specs.GoalTree.{GoalTree}
 use Rattle.pi_core.specs.CoreTree.{PredTree, QueryTree, pred_tree}
 use Rattle.pi_core.specs.declared.core_program.CorePred.{CorePred}
 use Rattle.pi_core.specs.declared.core_program.NameSlot.{NameSlot}
-use Rattle.pi_code.specs.declared.code.Code.{Code}
-use Rattle.pi_arenas.specs.declared.run.Now.{Now}
-use Rattle.pi_arenas.specs.Arenas.{ArenasView}
-use Rattle.pi_meaning.specs.Step.{start}
-use Rattle.pi_stands.specs.Stands.{Loaded, world, Stands}
+use Rattle.pi_engine_code.specs.declared.code.Code.{Code}
+use Rattle.pi_engine_arenas.specs.declared.run.Now.{Now}
+use Rattle.pi_engine_arenas.specs.Arenas.{ArenasView}
+use Rattle.pi_meaning.specs.Machine.Step.{start}
+use Rattle.pi_engine_stands.specs.Stands.{Loaded, world, Stands}
 
 -- a query by its parts
 abbrev pub asked : GoalTree → List CorePred → List NameSlot → ℕ → QueryTree

@@ -1,18 +1,18 @@
 -- What a call of `next` comes to, for those that use a machine: notes that it adds to the run's events, and then its answer,
 -- its output, or where the run stops.
 use Rattle.std.specs.Prelude.{◌≡◌, ◌⊎◌, ◌≤◌, ℕ, ◌+◌, List, [], ◌∷◌, ◌++◌, Option, Some, None, ⊤}
-use Rattle.pi_meaning.specs.Trace.{End, Done, Raise, Note, Tick, Load, Out, Emitted, noted, answered, count_ticks}
-use Rattle.pi_meaning.specs.Depth.{Cut, Spent, with_events}
-use Rattle.pi_meaning.specs.View.{View}
-use Rattle.pi_meaning.specs.Instances.{no_later, whole}
-use Rattle.pi_meaning.specs.Run.{Solution, IsRunUnder}
+use Rattle.pi_meaning.specs.Traces.Trace.{End, Done, Raise, Note, Tick, Load, Out, Emitted, noted, answered, count_ticks}
+use Rattle.pi_meaning.specs.Traces.Depth.{Cut, Spent, with_events}
+use Rattle.pi_meaning.specs.Shared.View.{View}
+use Rattle.pi_meaning.specs.CoreMeaning.Instances.{no_later, whole}
+use Rattle.pi_meaning.specs.CoreMeaning.Run.{Solution, IsRunUnder}
 use Rattle.pi_core.specs.CoreTree.{PredTree, QueryTree}
 use Rattle.pi_meaning.specs.declared.happening.Budget.{Budget}
 use Rattle.pi_meaning.specs.declared.happening.Happening.{Happening}
 use Rattle.pi_meaning.specs.declared.happening.Mode.{Mode}
-use Rattle.pi_meaning.specs.Budget.{AreStepsUsed, IsWorkUsed, IsInner}
-use Rattle.pi_meaning.specs.Next.{Tells, some_ticks}
-use Rattle.pi_stands.specs.Goes.{counted}
+use Rattle.pi_meaning.specs.Machine.Budget.{AreStepsUsed, IsWorkUsed, IsInner}
+use Rattle.pi_meaning.specs.Machine.Next.{Tells, some_ticks}
+use Rattle.pi_engine_stands.specs.Goes.{counted}
 use Rattle.pi_engine.specs.Needs.{asked_for, Needs}
 use Rattle.pi_engine.specs.Seen.{MachineView, mode_of, stopped, IsException, IsWork}
 use Rattle.pi_engine.specs.Runs.{RunsTo, EndsWith}

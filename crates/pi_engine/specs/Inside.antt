@@ -1,21 +1,21 @@
 -- Where the run of a machine is, by what the machine has inside. Those that use it need none of this: they read `Seen` and `Runs`.
 use Rattle.std.specs.Prelude.{◌≡◌, List, ◌++◌, ⊤}
 use Rattle.pi_constraints.specs.Store.{Terms}
-use Rattle.pi_meaning.specs.Trace.{End, Done, Note, Tick, Emitted}
-use Rattle.pi_meaning.specs.View.{View}
-use Rattle.pi_meaning.specs.Run.{Solution}
+use Rattle.pi_meaning.specs.Traces.Trace.{End, Done, Note, Tick, Emitted}
+use Rattle.pi_meaning.specs.Shared.View.{View}
+use Rattle.pi_meaning.specs.CoreMeaning.Run.{Solution}
 use Rattle.pi_core.specs.CoreTree.{PredTree, QueryTree}
 use Rattle.pi_core.specs.declared.core_program.NameSlot.{NameSlot}
 use Rattle.pi_meaning.specs.declared.happening.Mode.{Mode}
-use Rattle.pi_arenas.specs.declared.run.End.{End as RunEnd}
-use Rattle.pi_arenas.specs.declared.run.Now.{Now}
-use Rattle.pi_meaning.specs.Built.{AreOfRules}
-use Rattle.pi_meaning.specs.Configuration.{Config}
-use Rattle.pi_meaning.specs.Leads.{Leads, IsAtNote, IsAtEnd}
-use Rattle.pi_meaning.specs.Shape.{IsGood}
-use Rattle.pi_meaning.specs.Step.{start}
-use Rattle.pi_stands.specs.Answers.{AreNames}
-use Rattle.pi_stands.specs.Stands.{Loaded, World, world, Stands}
+use Rattle.pi_engine_arenas.specs.declared.run.End.{End as RunEnd}
+use Rattle.pi_engine_arenas.specs.declared.run.Now.{Now}
+use Rattle.pi_meaning.specs.Machine.Built.{AreOfRules}
+use Rattle.pi_meaning.specs.Machine.Configuration.{Config}
+use Rattle.pi_meaning.specs.Machine.Leads.{Leads, IsAtNote, IsAtEnd}
+use Rattle.pi_meaning.specs.Machine.Shape.{IsGood}
+use Rattle.pi_meaning.specs.Machine.Step.{start}
+use Rattle.pi_engine_stands.specs.Answers.{AreNames}
+use Rattle.pi_engine_stands.specs.Stands.{Loaded, World, world, Stands}
 use Rattle.pi_engine.specs.Seen.{MachineView, IsException, IsWork}
 
 -- what a machine runs, by the terms that its tables are read with

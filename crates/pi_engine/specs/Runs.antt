@@ -1,14 +1,14 @@
 -- The run of a machine, as those that use it see it: its events so far, and its end.
 use Rattle.std.specs.Prelude.{◌≡◌, ℕ, ◌+◌, ◌≤◌, List, ◌++◌}
 use Rattle.pi_terms.specs.Tree.{Tree}
-use Rattle.pi_meaning.specs.Trace.{End, Done, Emitted, count_ticks}
-use Rattle.pi_meaning.specs.Depth.{Cut, Ended, with_events}
-use Rattle.pi_meaning.specs.View.{View}
-use Rattle.pi_meaning.specs.Instances.{no_later, whole}
-use Rattle.pi_meaning.specs.Run.{Solution, IsRunUnder}
+use Rattle.pi_meaning.specs.Traces.Trace.{End, Done, Emitted, count_ticks}
+use Rattle.pi_meaning.specs.Traces.Depth.{Cut, Ended, with_events}
+use Rattle.pi_meaning.specs.Shared.View.{View}
+use Rattle.pi_meaning.specs.CoreMeaning.Instances.{no_later, whole}
+use Rattle.pi_meaning.specs.CoreMeaning.Run.{Solution, IsRunUnder}
 use Rattle.pi_core.specs.CoreTree.{PredTree, QueryTree}
 use Rattle.pi_meaning.specs.declared.happening.Happening.{Happening}
-use Rattle.pi_meaning.specs.Next.{some_ticks}
+use Rattle.pi_meaning.specs.Machine.Next.{some_ticks}
 use Rattle.pi_engine.specs.Seen.{MachineView, mode_of, HasEnded, Fits, IsException}
 use Rattle.pi_engine.specs.Inside.{IsPlaced}
 

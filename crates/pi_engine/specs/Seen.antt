@@ -2,18 +2,18 @@
 use Rattle.std.specs.Prelude.{◌≡◌, ◌⊎◌, ℕ, List, length, Option, Some, None, ⊤}
 use Rattle.pi_constraints.specs.Store.{StoreView}
 use Rattle.pi_terms.specs.Tree.{Tree}
-use Rattle.pi_meaning.specs.Trace.{End, Raise, Abort, Note, Tick, Load, Out}
+use Rattle.pi_meaning.specs.Traces.Trace.{End, Raise, Abort, Note, Tick, Load, Out}
 use Rattle.pi_core.specs.declared.core_program.NameSlot.{NameSlot}
-use Rattle.pi_code.specs.declared.code.Code.{Code}
+use Rattle.pi_engine_code.specs.declared.code.Code.{Code}
 use Rattle.pi_meaning.specs.declared.happening.Happening.{Happening}
 use Rattle.pi_meaning.specs.declared.happening.Mode.{Mode}
-use Rattle.pi_meaning.specs.Budget.{IsInner}
-pub use Rattle.pi_stands.specs.Views.{Fits}
+use Rattle.pi_meaning.specs.Machine.Budget.{IsInner}
+pub use Rattle.pi_engine_stands.specs.Views.{Fits}
 use Rattle.pi_engine.specs.declared.machine.Kept.{Kept}
 use Rattle.pi_engine.specs.declared.machine.Machine.{Machine}
-use Rattle.pi_arenas.specs.declared.run.End.{End as RunEnd}
-use Rattle.pi_arenas.specs.declared.run.Now.{Now}
-use Rattle.pi_arenas.specs.Arenas.{ArenasView, view_of}
+use Rattle.pi_engine_arenas.specs.declared.run.End.{End as RunEnd}
+use Rattle.pi_engine_arenas.specs.declared.run.Now.{Now}
+use Rattle.pi_engine_arenas.specs.Arenas.{ArenasView, view_of}
 
 -- A machine at one moment. What it has inside is read by the names below alone.
 pub record MachineView (M : Type 0) : Type 0 where

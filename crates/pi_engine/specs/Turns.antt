@@ -1,21 +1,21 @@
 -- What a step of the machine's code does, and what a call of `next` comes to.
 use Rattle.std.specs.Prelude.{◌≡◌, ◌⊎◌, List, [], ◌∷◌, ◌++◌, ⊤}
-use Rattle.pi_meaning.specs.Trace.{Out, Emitted, noted, answered}
-use Rattle.pi_meaning.specs.View.{View}
-use Rattle.pi_meaning.specs.Run.{Solution}
+use Rattle.pi_meaning.specs.Traces.Trace.{Out, Emitted, noted, answered}
+use Rattle.pi_meaning.specs.Shared.View.{View}
+use Rattle.pi_meaning.specs.CoreMeaning.Run.{Solution}
 use Rattle.pi_core.specs.declared.core_program.NameSlot.{NameSlot}
 use Rattle.pi_meaning.specs.declared.happening.Budget.{Budget}
 use Rattle.pi_meaning.specs.declared.happening.Happening.{Happening}
 use Rattle.pi_meaning.specs.declared.happening.Mode.{Mode}
-use Rattle.pi_arenas.specs.declared.run.End.{End as RunEnd}
-use Rattle.pi_arenas.specs.declared.run.Now.{Now}
-use Rattle.pi_arenas.specs.declared.run.Run.{Run}
+use Rattle.pi_engine_arenas.specs.declared.run.End.{End as RunEnd}
+use Rattle.pi_engine_arenas.specs.declared.run.Now.{Now}
+use Rattle.pi_engine_arenas.specs.declared.run.Run.{Run}
 use Rattle.pi_engine.specs.declared.turns.Outcome.{Outcome}
-use Rattle.pi_meaning.specs.Configuration.{Config}
-use Rattle.pi_meaning.specs.Shape.{IsGood}
-use Rattle.pi_stands.specs.Stands.{World}
-use Rattle.pi_meaning.specs.Next.{Tells, some_ticks, NextIs}
-use Rattle.pi_stands.specs.Goes.{counted, IsAt, Goes, IsSpent}
+use Rattle.pi_meaning.specs.Machine.Configuration.{Config}
+use Rattle.pi_meaning.specs.Machine.Shape.{IsGood}
+use Rattle.pi_engine_stands.specs.Stands.{World}
+use Rattle.pi_meaning.specs.Machine.Next.{Tells, some_ticks, NextIs}
+use Rattle.pi_engine_stands.specs.Goes.{counted, IsAt, Goes, IsSpent}
 
 -- ---- one step
 

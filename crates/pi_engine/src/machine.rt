@@ -3,13 +3,13 @@ ghost use Rattle.std.specs.Prelude.{◌≡◌, [], ◌++◌, List, IfOk, IfErr};
 ghost use Rattle.pi_constraints.specs.State.{empty_state};
 ghost use Rattle.pi_constraints.specs.Store.{Stays};
 ghost use Rattle.pi_core.specs.CoreTree.{PredTree, QueryTree, program_tree, query_tree};
-ghost use Rattle.pi_meaning.specs.Run.{Solution};
-ghost use Rattle.pi_meaning.specs.Sound.{IsSoundQuery};
-ghost use Rattle.pi_meaning.specs.Defined.{QueryCallsDefined, NamesAreFree};
-ghost use Rattle.pi_meaning.specs.Trace.{Emitted};
-ghost use Rattle.pi_meaning.specs.View.{View};
-ghost use Rattle.pi_meaning.specs.Budget.{Counts, IsWithin};
-ghost use Rattle.pi_meaning.specs.Built.{AreOfRules};
+ghost use Rattle.pi_meaning.specs.CoreMeaning.Run.{Solution};
+ghost use Rattle.pi_meaning.specs.CoreMeaning.Sound.{IsSoundQuery};
+ghost use Rattle.pi_meaning.specs.CoreMeaning.Defined.{QueryCallsDefined, NamesAreFree};
+ghost use Rattle.pi_meaning.specs.Traces.Trace.{Emitted};
+ghost use Rattle.pi_meaning.specs.Shared.View.{View};
+ghost use Rattle.pi_meaning.specs.Machine.Budget.{Counts, IsWithin};
+ghost use Rattle.pi_meaning.specs.Machine.Built.{AreOfRules};
 ghost use Rattle.pi_meaning.specs.declared.happening.Happening.{Happening};
 ghost use Rattle.pi_engine.specs.Seen.{machine_view, store_of, mode_of, kept_by, end_of, HasEnded, GoesOn, Fits};
 ghost use Rattle.pi_engine.specs.Runs.{RunsTo};
@@ -17,10 +17,10 @@ ghost use Rattle.pi_engine.specs.Happens.{Happens, HappensByTicks, IsBuiltSoFar,
 
 use crate::begin::begin;
 use crate::turns::next_happening;
-use pi_arenas::Run;
-use pi_code::Code;
 use pi_constraints::StateStore;
 use pi_core::{CoreProgram, CoreQuery, NameSlots};
+use pi_engine_arenas::Run;
+use pi_engine_code::Code;
 use pi_meaning::{Budget, Happening, Mode};
 use std::alloc::{AllocError, Global};
 
@@ -55,7 +55,7 @@ pub struct Kept {
 
 impl<'p, S: StateStore> Machine<'p, S> {
     /// A machine that is to run the query over an empty store. It runs each kind of goal, under predicates and functions
-    /// made of rules; those of the tables of `pi_builtin` are built in. Where memory is wanted, the store comes back as it was.
+    /// made of rules; those of the tables of `pi_lib_builtin` are built in. Where memory is wanted, the store comes back as it was.
     pub fn new(
         alloc: Global,
         core: &'p CoreProgram,
@@ -63,7 +63,11 @@ impl<'p, S: StateStore> Machine<'p, S> {
         store: S,
         mode: Mode,
     ) -> Result<Machine<'p, S>, S>
-        ensures runs { IfOk result (λ machine. (S.seen store).now.state ≡ empty_state → IsSoundQuery (program_tree core.now) (query_tree query) → QueryCallsDefined (program_tree core.now) (query_tree query) → NamesAreFree (program_tree core.now ++ (query_tree query).helpers) → AreOfRules (program_tree core.now ++ (query_tree query).helpers) → (v : View) → Fits mode v → RunsTo v (machine_view S.seen S.order machine) (program_tree core.now) (query_tree query) []) }
+        ensures runs { IfOk result (λ machine. (S.seen store).now.state ≡ empty_state →
+            IsSoundQuery (program_tree core.now) (query_tree query) → QueryCallsDefined (program_tree core.now) (query_tree query) →
+            NamesAreFree (program_tree core.now ++ (query_tree query).helpers) →
+            AreOfRules (program_tree core.now ++ (query_tree query).helpers) → (v : View) → Fits mode v →
+            RunsTo v (machine_view S.seen S.order machine) (program_tree core.now) (query_tree query) []) }
         ensures mode { IfOk result (λ machine. mode_of (machine_view S.seen S.order machine) ≡ mode) }
         ensures running { IfOk result (λ machine. GoesOn (machine_view S.seen S.order machine)) }
         ensures err { IfErr result (λ given. Stays (S.seen store) (S.seen given)) }
@@ -99,10 +103,19 @@ impl<S: StateStore> Machine<'_, S> {
         ensures counts { Counts (mode_of (machine_view S.seen S.order self.old)) budget.old budget.new }
         ensures within { IsWithin budget.old → IsWithin budget.new }
         ensures mode { mode_of (machine_view S.seen S.order self.new) ≡ mode_of (machine_view S.seen S.order self.old) }
-        ensures steps { GoesOn (machine_view S.seen S.order self.old) → (v : View) (program : List PredTree) (q : QueryTree) (events : List (Emitted Solution)) → RunsTo v (machine_view S.seen S.order self.old) program q events → Happens v program q events (machine_view S.seen S.order self.old) (machine_view S.seen S.order self.new) budget.old budget.new result }
+        ensures steps { GoesOn (machine_view S.seen S.order self.old) →
+            (v : View) (program : List PredTree) (q : QueryTree) (events : List (Emitted Solution)) →
+            RunsTo v (machine_view S.seen S.order self.old) program q events →
+            Happens v program q events (machine_view S.seen S.order self.old)
+            (machine_view S.seen S.order self.new) budget.old budget.new result }
         ensures built { IsBuiltSoFar result }
-        ensures ticks { GoesOn (machine_view S.seen S.order self.old) → (v : View) (program : List PredTree) (q : QueryTree) (events : List (Emitted Solution)) → RunsTo v (machine_view S.seen S.order self.old) program q events → HappensByTicks v program q events (machine_view S.seen S.order self.old) (machine_view S.seen S.order self.new) budget.old budget.new result }
-        ensures repeats { (end : Happening) → HasEnded (machine_view S.seen S.order self.old) end → IsRepeated end (machine_view S.seen S.order self.old) (machine_view S.seen S.order self.new) budget.old budget.new result }
+        ensures ticks { GoesOn (machine_view S.seen S.order self.old) →
+            (v : View) (program : List PredTree) (q : QueryTree) (events : List (Emitted Solution)) →
+            RunsTo v (machine_view S.seen S.order self.old) program q events →
+            HappensByTicks v program q events (machine_view S.seen S.order self.old)
+            (machine_view S.seen S.order self.new) budget.old budget.new result }
+        ensures repeats { (end : Happening) → HasEnded (machine_view S.seen S.order self.old) end →
+            IsRepeated end (machine_view S.seen S.order self.old) (machine_view S.seen S.order self.new) budget.old budget.new result }
         ensures lasts { end_of (machine_view S.seen S.order self.new) ≡ lasting result }
     {
         next_happening(

@@ -1,29 +1,29 @@
 //! The turns of a machine: one step after the other, until there is an answer or an end.
 ghost use Rattle.std.specs.Prelude.{◌≡◌, Some, IfOk, IfErr, Box};
 ghost use Rattle.std.specs.Global.{Global};
-ghost use Rattle.pi_arenas.specs.declared.run.Telling.{Telling};
-ghost use Rattle.pi_meaning.specs.View.{View};
+ghost use Rattle.pi_engine_arenas.specs.declared.run.Telling.{Telling};
+ghost use Rattle.pi_meaning.specs.Shared.View.{View};
 ghost use Rattle.pi_meaning.specs.declared.happening.Budget.{Budget};
 ghost use Rattle.pi_meaning.specs.declared.happening.Mode.{Mode};
-ghost use Rattle.pi_arenas.specs.declared.run.End.{End};
-ghost use Rattle.pi_meaning.specs.Budget.{Counts};
-ghost use Rattle.pi_arenas.specs.Frames.{frame_at};
-ghost use Rattle.pi_arenas.specs.Arenas.{view_of};
-ghost use Rattle.pi_meaning.specs.Configuration.{Config};
-ghost use Rattle.pi_stands.specs.Answers.{AreNames};
-ghost use Rattle.pi_stands.specs.Stands.{Loaded, world};
-ghost use Rattle.pi_stands.specs.Views.{Fits};
-ghost use Rattle.pi_stands.specs.Makes.{GoesFrom};
-ghost use Rattle.pi_stands.specs.Goes.{IsIn, IsSpent, PointIsDone};
+ghost use Rattle.pi_engine_arenas.specs.declared.run.End.{End};
+ghost use Rattle.pi_meaning.specs.Machine.Budget.{Counts};
+ghost use Rattle.pi_engine_arenas.specs.Frames.{frame_at};
+ghost use Rattle.pi_engine_arenas.specs.Arenas.{view_of};
+ghost use Rattle.pi_meaning.specs.Machine.Configuration.{Config};
+ghost use Rattle.pi_engine_stands.specs.Answers.{AreNames};
+ghost use Rattle.pi_engine_stands.specs.Stands.{Loaded, world};
+ghost use Rattle.pi_engine_stands.specs.Views.{Fits};
+ghost use Rattle.pi_engine_stands.specs.Makes.{GoesFrom};
+ghost use Rattle.pi_engine_stands.specs.Goes.{IsIn, IsSpent, PointIsDone};
 ghost use Rattle.pi_engine.specs.Happens.{IsBuiltSoFar};
 ghost use Rattle.pi_engine.specs.Turns.{StepIs, StepStops, stopped_run, NextComes, IsRunning, RunsAfter, IsAnswered, RepeatsEnd, Lasts, IsRaised};
 
-use pi_arenas::{End, Now, Point, Run, Telling};
-use pi_code::Code;
 use pi_constraints::StateStore;
 use pi_core::{Answer, NameSlot};
+use pi_engine_arenas::{End, Now, Point, Run, Telling};
+use pi_engine_code::Code;
+use pi_engine_steps::{answer, answer_level, fail, run_goal, unwind};
 use pi_meaning::{Budget, Happening, Mode};
-use pi_steps::{answer, answer_level, fail, run_goal, unwind};
 use pi_terms::Text;
 use std::alloc::{AllocError, Global};
 use std::mem;
@@ -45,7 +45,10 @@ pub fn next_happening<S: StateStore>(
     budget: &mut Budget,
 ) -> Happening
     ensures counts { Counts mode budget.old budget.new }
-    ensures comes { (l : Loaded) → l.code ≡ code.now → AreNames l.query_slots names.now → (v : View) → Fits mode v → (c : Config) → IsIn v names.now (world l (S.seen run.old.store) S.order (view_of run.old.arenas)) run.old.now c → NextComes v names.now mode budget.old budget.new (world l (S.seen run.new.store) S.order (view_of run.new.arenas)) run.old.now run.new.now c result }
+    ensures comes { (l : Loaded) → l.code ≡ code.now → AreNames l.query_slots names.now → (v : View) → Fits mode v → (c : Config) →
+        IsIn v names.now (world l (S.seen run.old.store) S.order (view_of run.old.arenas)) run.old.now c →
+        NextComes v names.now mode budget.old budget.new
+        (world l (S.seen run.new.store) S.order (view_of run.new.arenas)) run.old.now run.new.now c result }
     ensures repeats { (e : End) → run.old.now ≡ Now.Ended e → RepeatsEnd stopped_run e run.old run.new budget.old budget.new result }
     ensures built { IsBuiltSoFar result }
     ensures lasts { Lasts result run.new.now }
@@ -97,8 +100,14 @@ fn step<S: StateStore>(
 ) -> Result<Outcome, AllocError>
     ensures counts { Counts mode budget.old budget.new }
     ensures answered { IfOk result (λ outcome. RunsAfter outcome run.new.now) }
-    ensures is { IfOk result (λ outcome. IsRunning run.old.now → (l : Loaded) → l.code ≡ code.now → AreNames l.query_slots names.now → (v : View) → Fits mode v → (c : Config) → IsIn v names.now (world l (S.seen run.old.store) S.order (view_of run.old.arenas)) run.old.now c → StepIs v names.now mode budget.old budget.new (world l (S.seen run.new.store) S.order (view_of run.new.arenas)) run.new.now c outcome) }
-    ensures stops { IfErr result (λ _. IsRunning run.old.now → (l : Loaded) → l.code ≡ code.now → (v : View) → Fits mode v → (c : Config) → IsIn v names.now (world l (S.seen run.old.store) S.order (view_of run.old.arenas)) run.old.now c → StepStops v names.now mode budget.old budget.new (world l (S.seen run.old.store) S.order (view_of run.old.arenas)) c) }
+    ensures is { IfOk result (λ outcome. IsRunning run.old.now → (l : Loaded) → l.code ≡ code.now →
+        AreNames l.query_slots names.now → (v : View) → Fits mode v → (c : Config) →
+        IsIn v names.now (world l (S.seen run.old.store) S.order (view_of run.old.arenas)) run.old.now c →
+        StepIs v names.now mode budget.old budget.new
+        (world l (S.seen run.new.store) S.order (view_of run.new.arenas)) run.new.now c outcome) }
+    ensures stops { IfErr result (λ _. IsRunning run.old.now → (l : Loaded) → l.code ≡ code.now → (v : View) → Fits mode v →
+        (c : Config) → IsIn v names.now (world l (S.seen run.old.store) S.order (view_of run.old.arenas)) run.old.now c →
+        StepStops v names.now mode budget.old budget.new (world l (S.seen run.old.store) S.order (view_of run.old.arenas)) c) }
 {
     match &run.now {
         Now::Going(at) => {
@@ -134,7 +143,8 @@ fn step<S: StateStore>(
 fn tell<S: StateStore>(run: &mut Run<S>) -> Outcome
     ensures store { run.new.store ≡ run.old.store }
     ensures arenas { run.new.arenas ≡ run.old.arenas }
-    ensures tells { (told : Box Telling Global) → run.old.now ≡ Now.Telling told → (result ≡ Outcome.Told told) × (run.new.now ≡ Now.Going told.value.point) }
+    ensures tells { (told : Box Telling Global) → run.old.now ≡ Now.Telling told →
+        (result ≡ Outcome.Told told) × (run.new.now ≡ Now.Going told.value.point) }
 {
     let now = mem::replace(&mut run.now, Now::Failing);
     let Some(told) = now.into_telling() else {
@@ -152,7 +162,10 @@ fn go_on<S: StateStore>(
     point: Point,
 ) -> Result<Outcome, AllocError>
     ensures answered { IfOk result (λ outcome. RunsAfter outcome run.new.now) }
-    ensures is { IfOk result (λ outcome. (l : Loaded) → l.code ≡ code.now → AreNames l.query_slots names.now → (v : View) (c : Config) → PointIsDone (world l (S.seen run.old.store) S.order (view_of run.old.arenas)) point c → (mode : Mode) (b : Budget) → StepIs v names.now mode b b (world l (S.seen run.new.store) S.order (view_of run.new.arenas)) run.new.now c outcome) }
+    ensures is { IfOk result (λ outcome. (l : Loaded) → l.code ≡ code.now → AreNames l.query_slots names.now →
+        (v : View) (c : Config) → PointIsDone (world l (S.seen run.old.store) S.order (view_of run.old.arenas)) point c →
+        (mode : Mode) (b : Budget) → StepIs v names.now mode b b
+        (world l (S.seen run.new.store) S.order (view_of run.new.arenas)) run.new.now c outcome) }
 {
     if let Some(next) = run.arenas.frames.get(point.frame) {
         follow(run, point, next);
@@ -178,7 +191,9 @@ fn go_on<S: StateStore>(
 /// Goes on with a point's frame, whose goals are done.
 #[inline(always)]
 fn follow<S: StateStore>(run: &mut Run<S>, point: Point, next: Point)
-    ensures { (l : Loaded) → point.count ≡ 0 → frame_at run.old.arenas.frames point.frame ≡ Some next → GoesFrom (world l (S.seen run.old.store) S.order (view_of run.old.arenas)) (world l (S.seen run.new.store) S.order (view_of run.new.arenas)) point run.new.now }
+    ensures { (l : Loaded) → point.count ≡ 0 → frame_at run.old.arenas.frames point.frame ≡ Some next →
+        GoesFrom (world l (S.seen run.old.store) S.order (view_of run.old.arenas))
+        (world l (S.seen run.new.store) S.order (view_of run.new.arenas)) point run.new.now }
 {
     run.now = Now::Going(run.arenas.go_on(point, next));
 }

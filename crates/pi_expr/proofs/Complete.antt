@@ -7,8 +7,8 @@ use Rattle.pi_syntax.specs.Tokens.{Token}
 use Rattle.pi_syntax.specs.Ranks.{line_rank, rank, reach, reach_of}
 use Rattle.pi_syntax.proofs.GrammarLemmas.{line_rank-operand, reach-joins, reach_of-pow, stops_joined, stops_postfixes, begins, begins_units, ends_reach, EndsChoice}
 use Rattle.pi_syntax.specs.Grammar.{Phrase, exp, branch, conj, unit, line, negation, relating, range, unary, pow, post, prim, operand as operand_of, Joins, a_joint, a_plus, a_minus, call_one, call_two, conjunction, disjunction, indexed, takes_index, HasExp, Reads, branches, no_arrow, an_arrow, conjuncts, signed_goal, plain_unit, joined, negative, positive, unrelated, related, no_range, a_range, a_stepped_range, with_plus, with_minus, with_complement, unsigned, no_power, a_power, postfixes, a_variable, a_pattern, an_integer, an_atom, a_call, a_text, no_list, a_list, a_list_onto, a_list_of, no_array, an_array, an_array_of, in_parens, a_structure, a_term, an_if, an_if_else, a_foreach, a_while, a_do_while, Branches, last_branch, more_branches, Units, last_unit, more_units, Joined, no_more, join, Postfixes, no_postfix, an_index, a_dot, a_dot_call, no_arguments, arguments as in_arguments, Choices, last_choice, more_choices}
-use Rattle.pi_phrases.specs.Machine as m
-use Rattle.pi_phrases.specs.Machine.{with_exp, with_branch, headed, tail, Closing, of_call, of_quote, of_method, of_list, of_array, of_collect, of_foreach, Frame, State, operand, value, Outcome, next, done, fail, wants, wanted, enter, continue, resume, when, choose, closed, closer, close_items, arguments, join_line, step, begin, Runs, stop, go}
+use Rattle.pi_expr_phrases.specs.Machine as m
+use Rattle.pi_expr_phrases.specs.Machine.{with_exp, with_branch, headed, tail, Closing, of_call, of_quote, of_method, of_list, of_array, of_collect, of_foreach, Frame, State, operand, value, Outcome, next, done, fail, wants, wanted, enter, continue, resume, when, choose, closed, closer, close_items, arguments, join_line, step, begin, Runs, stop, go}
 use Rattle.pi_expr.proofs.Steps.{Goes, goes_then, enters, resumes, continues, resumed_last, nat_le-yes, plus_exps, plus_exps-none, plus_exps-one, not_semicolon, not_comma, not_dots, not_open_paren, not_at, not_close_paren, not_close_bracket, not_close_brace, variable_takes, atom_takes_no}
 
 -- the machine comes from before the phrase to behind it, with a phrase that binds as tightly at least

@@ -7,7 +7,7 @@ use Rattle.std.proofs.lemmas.List.Sums.{sum_by-cons}
 use Rattle.pi_syntax.specs.Tokens.{Token}
 use Rattle.pi_syntax.specs.Crowding.{most_open, most_block_words, is_opening, is_closing, is_block_word, IsCrowded}
 use Rattle.pi_expr.specs.Crowds.{one_if, is_too_open}
-pub use Rattle.pi_phrases.proofs.StretchLemmas.{stretch_step, stretch_none}
+pub use Rattle.pi_expr_phrases.proofs.StretchLemmas.{stretch_step, stretch_none}
 
 count_step : (p : Token → Bool) (t : Token) (ts : List Token) → count_by p (t ∷ ts) ≡ one_if (p t) + count_by p ts
 count_step p t ts = sum_by-cons (λ x. cond (p x) 1 0) t ts

@@ -6,7 +6,7 @@ use Rattle.pi_syntax.specs.Terminals.{Terminal, terminal}
 use Rattle.pi_syntax.specs.Tokens.{Token}
 use Rattle.pi_syntax.specs.Ranks.{rank, reach_of}
 use Rattle.pi_syntax.specs.Grammar.{Phrase, exp, Reads, HasExp}
-use Rattle.pi_phrases.specs.Machine.{Frame, State, operand, value, Outcome, wanted, continue, resume_last, step, begin, Runs, stop, go}
+use Rattle.pi_expr_phrases.specs.Machine.{Frame, State, operand, value, Outcome, wanted, continue, resume_last, step, begin, Runs, stop, go}
 use Rattle.pi_expr.proofs.Sound.{Stacked, Held, Good, GoodOutcome, holds_exp, reads_from}
 use Rattle.pi_expr.proofs.SoundSteps.{good_enter, good_continue, good_resume}
 

@@ -6,7 +6,7 @@ use Rattle.pi_syntax.specs.Tokens.{Token}
 use Rattle.pi_syntax.specs.Terminals as t
 use Rattle.pi_syntax.specs.Crowding.{IsCrowded, IsRead}
 use Rattle.pi_expr.specs.Faults.{IsFault}
-use Rattle.pi_phrases.specs.Machine.{begin}
+use Rattle.pi_expr_phrases.specs.Machine.{begin}
 use Rattle.pi_expr.specs.States.{EndsAs}
 use Rattle.pi_expr.specs.declared.fault.ExpFault.{ExpFault}
 use Rattle.pi_expr.specs.declared.fault.ExpFault.TheVariants as fault

@@ -3,11 +3,11 @@ use Rattle.std.proofs.Common.{◌≡◌, List, ◌∷◌, None, refl}
 use Rattle.pi_syntax.specs.ExpTree.{ExpTree, ExpTrees, no_exps, exp as exp_before, and, or}
 use Rattle.pi_syntax.specs.Grammar as g
 use Rattle.pi_syntax.specs.Terminals as t
-use Rattle.pi_phrases.specs.Machine as m
-use Rattle.pi_phrases.specs.Shown.{terminal_shown}
-use Rattle.pi_phrases.specs.declared.terminal.Mark.TheVariants as mark
-use Rattle.pi_phrases.specs.declared.terminal.Terminal.{Terminal}
-use Rattle.pi_phrases.specs.declared.terminal.Terminal.TheVariants as terminal
+use Rattle.pi_expr_phrases.specs.Machine as m
+use Rattle.pi_expr_phrases.specs.Shown.{terminal_shown}
+use Rattle.pi_expr_phrases.specs.declared.terminal.Mark.TheVariants as mark
+use Rattle.pi_expr_phrases.specs.declared.terminal.Terminal.{Terminal}
+use Rattle.pi_expr_phrases.specs.declared.terminal.Terminal.TheVariants as terminal
 
 alone_no-of : (rest : List t.Terminal) (first : Terminal) (ts : List t.Terminal) → ((x : _) → first ≡ terminal.Integer x → ⊥) → g.integer_alone (terminal_shown first ∷ ts) rest ≡ None
 alone_no-of rest (terminal.Variable name) ts h = refl

@@ -4,13 +4,13 @@ use Rattle.std.proofs.lemmas.Bool.{eqb-true, false≢true}
 use Rattle.std.proofs.lemmas.List.{nil_from_length}
 use Rattle.pi_syntax.specs.ExpTree.{ExpTree}
 use Rattle.pi_syntax.specs.Terminals as t
-use Rattle.pi_phrases.specs.Machine as m
-use Rattle.pi_phrases.specs.Machine.{Runs, stop, go, step}
-use Rattle.pi_phrases.specs.Shown.{terminals}
+use Rattle.pi_expr_phrases.specs.Machine as m
+use Rattle.pi_expr_phrases.specs.Machine.{Runs, stop, go, step}
+use Rattle.pi_expr_phrases.specs.Shown.{terminals}
 use Rattle.pi_expr.specs.Sizes.{size}
-use Rattle.pi_phrases.specs.Turns.{ShowsFrame}
+use Rattle.pi_expr_phrases.specs.Turns.{ShowsFrame}
 use Rattle.pi_expr.specs.States.{ShowsStack, ShowsState}
-use Rattle.pi_phrases.specs.declared.frame.Frame.{Frame}
+use Rattle.pi_expr_phrases.specs.declared.frame.Frame.{Frame}
 use Rattle.pi_expr.specs.declared.reader.State.{State}
 use Rattle.pi_expr.specs.declared.reader.State.TheVariants as state
 use Rattle.pi_expr.proofs.SizeLemmas.{next_down}

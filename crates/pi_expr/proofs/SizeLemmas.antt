@@ -6,8 +6,8 @@ use Rattle.pi_syntax.specs.Terminals as t
 use Rattle.pi_syntax.specs.Terminals.{Line, Terminal}
 use Rattle.pi_syntax.specs.Grammar as g
 use Rattle.pi_syntax.specs.Ranks.{line_rank, rank, reach_of}
-use Rattle.pi_phrases.specs.Machine as m
-use Rattle.pi_phrases.specs.Machine.{Closing, Frame, State, operand, value, Outcome, next, done, fail, wanted, number, choose, when, opened, closed, arguments, enter, enter_term, enter_sign, enter_dot, join_line, continue, collect_by, close_items, closer, resume, resume_last, finish, step, with_exp, with_branch}
+use Rattle.pi_expr_phrases.specs.Machine as m
+use Rattle.pi_expr_phrases.specs.Machine.{Closing, Frame, State, operand, value, Outcome, next, done, fail, wanted, number, choose, when, opened, closed, arguments, enter, enter_term, enter_sign, enter_dot, join_line, continue, collect_by, close_items, closer, resume, resume_last, finish, step, with_exp, with_branch}
 use Rattle.pi_expr.specs.Sizes.{size}
 
 abbrev pub Smaller : ℕ → Outcome → Type 0

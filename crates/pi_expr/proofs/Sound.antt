@@ -7,8 +7,8 @@ use Rattle.pi_syntax.specs.Terminals.{Line, equivalence, implication, constraint
 use Rattle.pi_syntax.specs.Ranks.{rank, reach_of}
 use Rattle.pi_syntax.specs.Grammar.{Phrase, exp, branch, conj, unit, line, negation, relating, range, unary, pow, post, prim, operand as operand_of, Joins, call_one, call_two, indexed, takes_index, is_atom, Reads, branches, no_arrow, signed_goal, joined, negative, with_plus, with_complement, postfixes, Branches, last_branch, Units, Joined, no_more, join, Postfixes, no_postfix, Choices}
 use Rattle.pi_syntax.proofs.GrammarLemmas.{line_rank-below, line_rank-above}
-use Rattle.pi_phrases.specs.Machine as m
-use Rattle.pi_phrases.specs.Machine.{with_exp, with_branch, number, headed, tail, Closing, of_call, of_quote, of_method, of_list, of_array, of_collect, of_foreach, Frame, State, operand, value, Outcome, next, done, fail, wants, wanted, enter, continue, resume, resume_last, finish, when, choose, closed, closer, close_items, collect_by, arguments, enter_term, enter_sign, enter_dot, join_line, step, begin, Runs, stop, go}
+use Rattle.pi_expr_phrases.specs.Machine as m
+use Rattle.pi_expr_phrases.specs.Machine.{with_exp, with_branch, number, headed, tail, Closing, of_call, of_quote, of_method, of_list, of_array, of_collect, of_foreach, Frame, State, operand, value, Outcome, next, done, fail, wants, wanted, enter, continue, resume, resume_last, finish, when, choose, closed, closer, close_items, collect_by, arguments, enter_term, enter_sign, enter_dot, join_line, step, begin, Runs, stop, go}
 use Rattle.pi_expr.proofs.Steps.{plus_exps}
 use Rattle.pi_expr.proofs.Complete.{plus_branches}
 use Rattle.pi_expr.proofs.Lift.{lift}

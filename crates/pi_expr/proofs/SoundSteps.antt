@@ -6,8 +6,8 @@ use Rattle.pi_syntax.specs.Terminals.{Line, equivalence, implication, constraint
 use Rattle.pi_syntax.specs.Ranks.{line_rank, rank, reach_of}
 use Rattle.pi_syntax.specs.Grammar.{Phrase, exp, branch, conj, unit, line, range, unary, post, prim, operand as operand_of, Joins, a_joint, a_plus, a_minus, call_one, conjunction, disjunction, integer_alone, negated, indexed, takes_index, is_atom, Reads, branches, an_arrow, conjuncts, related, a_range, a_stepped_range, with_minus, a_power, a_variable, a_pattern, an_integer, an_atom, a_call, a_text, no_list, a_list, a_list_onto, a_list_of, no_array, an_array, an_array_of, in_parens, a_structure, a_term, an_if, an_if_else, a_foreach, a_while, a_do_while, Branches, last_branch, more_branches, Units, last_unit, more_units, Postfixes, an_index, a_dot, a_dot_call, Arguments, no_arguments, arguments as in_arguments, Choices, last_choice, more_choices}
 use Rattle.pi_syntax.proofs.GrammarLemmas.{line_rank-above, line_rank-operand}
-use Rattle.pi_phrases.specs.Machine as m
-use Rattle.pi_phrases.specs.Machine.{with_exp, with_branch, number, headed, tail, Closing, of_call, of_quote, of_method, of_list, of_array, of_collect, of_foreach, Frame, State, operand, value, Outcome, next, done, fail, wants, wanted, enter, continue, resume, resume_last, finish, when, choose, closed, closer, close_items, collect_by, arguments, enter_term, enter_sign, enter_dot, join_line, step, begin, Runs, stop, go}
+use Rattle.pi_expr_phrases.specs.Machine as m
+use Rattle.pi_expr_phrases.specs.Machine.{with_exp, with_branch, number, headed, tail, Closing, of_call, of_quote, of_method, of_list, of_array, of_collect, of_foreach, Frame, State, operand, value, Outcome, next, done, fail, wants, wanted, enter, continue, resume, resume_last, finish, when, choose, closed, closer, close_items, collect_by, arguments, enter_term, enter_sign, enter_dot, join_line, step, begin, Runs, stop, go}
 use Rattle.pi_expr.proofs.Steps.{plus_exps-one, plus_exps-none, variable_takes, atom_takes_no}
 use Rattle.pi_expr.proofs.Complete.{plus_branches-none, IsArgument, a_called, a_quoted, a_method}
 use Rattle.pi_expr.proofs.Sound.{Signs, goal, inverse, plus, complement, PostSo, UnitsSo, ChoicesSo, Begins, gives_units, Stacked, Held, GoodOutcome, good_choose, good_when, wanted_most, nat_le-is, and-left, and-right, not-true, holds_at, holds_branch, holds_conj, holds_exp, holds_post, reads_holds, reads_signed, signs_rank, reads_joined, reads_from, reads_to, good_prim}

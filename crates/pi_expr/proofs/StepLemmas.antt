@@ -3,12 +3,12 @@ use Rattle.std.proofs.Common.{◌≡◌, Bool, true, List, ◌∷◌, refl}
 use Rattle.pi_syntax.specs.ExpTree.{ExpTree}
 use Rattle.pi_syntax.specs.Grammar as g
 use Rattle.pi_syntax.specs.Terminals as t
-use Rattle.pi_phrases.specs.Machine as m
-use Rattle.pi_phrases.specs.Shown.{mark_shown, terminal_shown}
-use Rattle.pi_phrases.specs.declared.terminal.Mark.{Mark}
-use Rattle.pi_phrases.specs.declared.terminal.Mark.TheVariants as mark
-use Rattle.pi_phrases.specs.declared.terminal.Terminal.{Terminal}
-use Rattle.pi_phrases.specs.declared.terminal.Terminal.TheVariants as terminal
+use Rattle.pi_expr_phrases.specs.Machine as m
+use Rattle.pi_expr_phrases.specs.Shown.{mark_shown, terminal_shown}
+use Rattle.pi_expr_phrases.specs.declared.terminal.Mark.{Mark}
+use Rattle.pi_expr_phrases.specs.declared.terminal.Mark.TheVariants as mark
+use Rattle.pi_expr_phrases.specs.declared.terminal.Terminal.{Terminal}
+use Rattle.pi_expr_phrases.specs.declared.terminal.Terminal.TheVariants as terminal
 
 pub enters_no : (fs : List m.Frame) (k : Mark) (ts : List t.Terminal) → (k ≡ mark.ConstraintNot → ⊥) → (k ≡ mark.Plus → ⊥) → (k ≡ mark.Complement → ⊥) → (k ≡ mark.Minus → ⊥) → (k ≡ mark.OpenParen → ⊥) → (k ≡ mark.OpenBracket → ⊥) → (k ≡ mark.OpenBrace → ⊥) → (k ≡ mark.Dollar → ⊥) → (k ≡ mark.If → ⊥) → (k ≡ mark.Foreach → ⊥) → (k ≡ mark.While → ⊥) → (k ≡ mark.Do → ⊥)
     → m.enter fs (mark_shown k ∷ ts) ≡ m.fail

@@ -6,7 +6,7 @@ use Rattle.pi_syntax.specs.Terminals as t
 use Rattle.pi_syntax.specs.Terminals.{Line, Terminal}
 use Rattle.pi_syntax.specs.Grammar.{Phrase, takes_index}
 use Rattle.pi_syntax.specs.Ranks.{reach_of, start_of}
-use Rattle.pi_phrases.specs.Machine.{with_exp, headed, Frame, State, operand, value, Outcome, next, wants, wanted, enter, continue, resume, resume_last, when, step, Runs, go}
+use Rattle.pi_expr_phrases.specs.Machine.{with_exp, headed, Frame, State, operand, value, Outcome, next, wants, wanted, enter, continue, resume, resume_last, when, step, Runs, go}
 
 -- every tree that the later state ends with, the earlier ends with
 pub record Goes (s n : State) : Type 0 where

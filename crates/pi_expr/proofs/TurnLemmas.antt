@@ -2,14 +2,14 @@
 use Rattle.std.proofs.Common.{◌≡◌, Bool, true, false, List, refl, ◌∙◌, sym}
 use Rattle.pi_syntax.specs.ExpTree.{ExpTree, ExpTrees, no_exps, exp as exp_before}
 use Rattle.pi_syntax.specs.Terminals as t
-use Rattle.pi_phrases.specs.Machine as m
-use Rattle.pi_phrases.specs.Machine.{with_exp}
-use Rattle.pi_phrases.specs.Trees.{Shows, ShowsItems, is_none}
-use Rattle.pi_phrases.specs.Turns.{ShowsUnits}
-use Rattle.pi_phrases.specs.declared.built.Built.{Built}
-use Rattle.pi_phrases.specs.declared.items.Items.{Items}
-use Rattle.pi_phrases.specs.declared.frame.Closing.{Closing}
-use Rattle.pi_phrases.specs.declared.frame.Closing.TheVariants as closing
+use Rattle.pi_expr_phrases.specs.Machine as m
+use Rattle.pi_expr_phrases.specs.Machine.{with_exp}
+use Rattle.pi_expr_phrases.specs.Trees.{Shows, ShowsItems, is_none}
+use Rattle.pi_expr_phrases.specs.Turns.{ShowsUnits}
+use Rattle.pi_expr_phrases.specs.declared.built.Built.{Built}
+use Rattle.pi_expr_phrases.specs.declared.items.Items.{Items}
+use Rattle.pi_expr_phrases.specs.declared.frame.Closing.{Closing}
+use Rattle.pi_expr_phrases.specs.declared.frame.Closing.TheVariants as closing
 
 -- one more unit
 pub units_with : (c : Closing) (xs ys : Items) (x : Built) (d : m.Closing) (es : ExpTrees) (e : ExpTree)

@@ -1,6 +1,6 @@
 -- What the faults of a reader say of its tokens.
 use Rattle.std.specs.Prelude.{List}
-pub use Rattle.pi_phrases.specs.Stretch.{stretch}
+pub use Rattle.pi_expr_phrases.specs.Stretch.{stretch}
 use Rattle.pi_syntax.specs.Tokens.{Token}
 use Rattle.pi_syntax.specs.Crowding.{IsTooDeep, HasNoExp}
 use Rattle.pi_expr.specs.declared.fault.ExpFault.{ExpFault}

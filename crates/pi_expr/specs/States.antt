@@ -4,11 +4,11 @@ use Rattle.std.specs.declared.alloc.AllocError.{AllocError}
 use Rattle.pi_syntax.specs.ExpTree.{ExpTree, levels, exp_tree}
 use Rattle.pi_syntax.specs.Crowding.{most_levels}
 use Rattle.pi_syntax.specs.declared.exp.Exp.{Exp}
-use Rattle.pi_phrases.specs.Machine as m
-use Rattle.pi_phrases.specs.Shown.{phrase_shown, terminals}
-use Rattle.pi_phrases.specs.Trees.{Shows}
-use Rattle.pi_phrases.specs.Turns.{ShowsFrame}
-use Rattle.pi_phrases.specs.declared.frame.Frame.{Frame}
+use Rattle.pi_expr_phrases.specs.Machine as m
+use Rattle.pi_expr_phrases.specs.Shown.{phrase_shown, terminals}
+use Rattle.pi_expr_phrases.specs.Trees.{Shows}
+use Rattle.pi_expr_phrases.specs.Turns.{ShowsFrame}
+use Rattle.pi_expr_phrases.specs.declared.frame.Frame.{Frame}
 use Rattle.pi_expr.specs.declared.fault.ExpFault.{ExpFault}
 use Rattle.pi_expr.specs.declared.fault.ExpFault.TheVariants as fault
 use Rattle.pi_expr.specs.declared.reader.State.{State}

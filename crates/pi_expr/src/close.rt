@@ -2,12 +2,12 @@
 ghost use Rattle.std.specs.Prelude.{List, true, false};
 ghost use Rattle.pi_syntax.specs.ExpTree.{ExpTree, ExpTrees};
 ghost use Rattle.pi_syntax.specs.Terminals as t;
-ghost use Rattle.pi_phrases.specs.Machine as machine;
-ghost use Rattle.pi_phrases.specs.Shown.{terminals};
-ghost use Rattle.pi_phrases.specs.Trees.{Shows, ShowsItems};
-ghost use Rattle.pi_phrases.specs.Turns.{ShowsUnits, ShowsTurn, ShowsStep};
+ghost use Rattle.pi_expr_phrases.specs.Machine as machine;
+ghost use Rattle.pi_expr_phrases.specs.Shown.{terminals};
+ghost use Rattle.pi_expr_phrases.specs.Trees.{Shows, ShowsItems};
+ghost use Rattle.pi_expr_phrases.specs.Turns.{ShowsUnits, ShowsTurn, ShowsStep};
 
-use pi_phrases::{Built, Closing, Frame, Items, Mark, Terminals, Turn, behind, closed};
+use pi_expr_phrases::{Built, Closing, Frame, Items, Mark, Terminals, Turn, behind, closed};
 use std::alloc::{AllocError, Global};
 
 /// The step behind one of the units.
@@ -18,7 +18,8 @@ pub(crate) fn resume_items<'a>(
     built: Built,
     ts: Terminals<'a>,
 ) -> Result<Turn<'a>, AllocError>
-    ensures { (fs : List machine.Frame) (c : machine.Closing) (es : ExpTrees) (e : ExpTree) → ShowsUnits closing.entry items c es → Shows built e → ShowsStep result fs (machine.resume (machine.items c es) fs e (terminals ts.entry)) }
+    ensures { (fs : List machine.Frame) (c : machine.Closing) (es : ExpTrees) (e : ExpTree) → ShowsUnits closing.entry items c es →
+        Shows built e → ShowsStep result fs (machine.resume (machine.items c es) fs e (terminals ts.entry)) }
 {
     match behind(Mark::Comma, ts) {
         Some(rest) => match items.with(built) {
@@ -39,7 +40,8 @@ fn close_items<'a>(
     built: Built,
     ts: Terminals<'a>,
 ) -> Result<Turn<'a>, AllocError>
-    ensures { (fs : List machine.Frame) (c : machine.Closing) (es : ExpTrees) (e : ExpTree) → ShowsUnits closing.entry items c es → Shows built e → ShowsStep result fs (machine.close_items c es fs e (terminals ts.entry)) }
+    ensures { (fs : List machine.Frame) (c : machine.Closing) (es : ExpTrees) (e : ExpTree) → ShowsUnits closing.entry items c es →
+        Shows built e → ShowsStep result fs (machine.close_items c es fs e (terminals ts.entry)) }
 {
     match closing {
         Closing::List => close_list(alloc, items, built, ts),
@@ -60,7 +62,8 @@ fn close_list<'a>(
     built: Built,
     ts: Terminals<'a>,
 ) -> Result<Turn<'a>, AllocError>
-    ensures { (fs : List machine.Frame) (es : ExpTrees) (e : ExpTree) → ShowsItems items es → Shows built e → ShowsStep result fs (machine.close_items machine.of_list es fs e (terminals ts.entry)) }
+    ensures { (fs : List machine.Frame) (es : ExpTrees) (e : ExpTree) → ShowsItems items es → Shows built e →
+        ShowsStep result fs (machine.close_items machine.of_list es fs e (terminals ts.entry)) }
 {
     match behind(Mark::Bar, ts) {
         Some(rest) => {
@@ -77,7 +80,10 @@ fn close_plain_list<'a>(
     built: Built,
     ts: Terminals<'a>,
 ) -> Result<Turn<'a>, AllocError>
-    ensures { (fs : List machine.Frame) (es : ExpTrees) (e : ExpTree) → ShowsItems items es → Shows built e → ShowsStep result fs (machine.choose t.colon (terminals ts.entry) (machine.collect_by false es fs e) (machine.choose t.close_bracket (terminals ts.entry) (machine.closed fs machine.of_list (machine.with_exp es e)) machine.fail)) }
+    ensures { (fs : List machine.Frame) (es : ExpTrees) (e : ExpTree) → ShowsItems items es → Shows built e →
+        ShowsStep result fs (machine.choose t.colon (terminals ts.entry) (machine.collect_by false es fs e)
+        (machine.choose t.close_bracket (terminals ts.entry)
+        (machine.closed fs machine.of_list (machine.with_exp es e)) machine.fail)) }
 {
     match behind(Mark::Colon, ts) {
         Some(rest) => Ok(collect_by(alloc, false, items, built, rest)),
@@ -91,7 +97,8 @@ fn close_array<'a>(
     built: Built,
     ts: Terminals<'a>,
 ) -> Result<Turn<'a>, AllocError>
-    ensures { (fs : List machine.Frame) (es : ExpTrees) (e : ExpTree) → ShowsItems items es → Shows built e → ShowsStep result fs (machine.close_items machine.of_array es fs e (terminals ts.entry)) }
+    ensures { (fs : List machine.Frame) (es : ExpTrees) (e : ExpTree) → ShowsItems items es → Shows built e →
+        ShowsStep result fs (machine.close_items machine.of_array es fs e (terminals ts.entry)) }
 {
     match behind(Mark::Colon, ts) {
         Some(rest) => Ok(collect_by(alloc, true, items, built, rest)),
@@ -107,7 +114,8 @@ fn collect_by<'a>(
     built: Built,
     rest: Terminals<'a>,
 ) -> Turn<'a>
-    ensures { (fs : List machine.Frame) (es : ExpTrees) (e : ExpTree) → ShowsItems items es → Shows built e → ShowsTurn result fs (machine.collect_by is_array es fs e (terminals rest.entry)) }
+    ensures { (fs : List machine.Frame) (es : ExpTrees) (e : ExpTree) → ShowsItems items es → Shows built e →
+        ShowsTurn result fs (machine.collect_by is_array es fs e (terminals rest.entry)) }
 {
     if items.is_empty() {
         let closing = Closing::Collect(is_array, built);
@@ -127,7 +135,9 @@ fn close_by<'a>(
     built: Built,
     ts: Terminals<'a>,
 ) -> Result<Turn<'a>, AllocError>
-    ensures { (fs : List machine.Frame) (c : machine.Closing) (es : ExpTrees) (e : ExpTree) → ShowsUnits closing.entry items c es → Shows built e → ShowsStep result fs (machine.choose (machine.closer c) (terminals ts.entry) (machine.closed fs c (machine.with_exp es e)) machine.fail) }
+    ensures { (fs : List machine.Frame) (c : machine.Closing) (es : ExpTrees) (e : ExpTree) → ShowsUnits closing.entry items c es →
+        Shows built e → ShowsStep result fs (machine.choose (machine.closer c) (terminals ts.entry)
+        (machine.closed fs c (machine.with_exp es e)) machine.fail) }
 {
     let closer = closing.closer();
     match behind(closer, ts) {

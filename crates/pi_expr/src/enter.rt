@@ -1,12 +1,12 @@
 //! The step before an operand.
 ghost use Rattle.std.specs.Prelude.{◌≡◌, List, ◌∷◌};
 ghost use Rattle.pi_syntax.specs.Terminals as t;
-ghost use Rattle.pi_phrases.specs.Machine as machine;
-ghost use Rattle.pi_phrases.specs.Shown.{mark_shown, phrase_shown, terminal_shown, terminals};
-ghost use Rattle.pi_phrases.specs.Turns.{ShowsTurn, ShowsStep};
+ghost use Rattle.pi_expr_phrases.specs.Machine as machine;
+ghost use Rattle.pi_expr_phrases.specs.Shown.{mark_shown, phrase_shown, terminal_shown, terminals};
+ghost use Rattle.pi_expr_phrases.specs.Turns.{ShowsTurn, ShowsStep};
 
 use crate::arguments::arguments;
-use pi_phrases::{
+use pi_expr_phrases::{
     Ahead, Choices, Closing, Frame, Items, Mark, Phrase, Terminal, Terminals, Turn, behind, built,
     found, front, open_behind, open_when,
 };
@@ -28,7 +28,8 @@ fn enter_by<'a>(
     first: Terminal<'a>,
     rest: Terminals<'a>,
 ) -> Result<Turn<'a>, AllocError>
-    ensures { (fs : List machine.Frame) → machine.wanted fs ≡ wanted → ShowsStep result fs (machine.enter fs (terminal_shown first.entry ∷ terminals rest.entry)) }
+    ensures { (fs : List machine.Frame) → machine.wanted fs ≡ wanted →
+        ShowsStep result fs (machine.enter fs (terminal_shown first.entry ∷ terminals rest.entry)) }
 {
     match first {
         Terminal::Variable(name) => variable(alloc, name, rest),
@@ -51,7 +52,8 @@ fn enter_mark<'a>(
     mark: Mark,
     rest: Terminals<'a>,
 ) -> Result<Turn<'a>, AllocError>
-    ensures { (fs : List machine.Frame) → machine.wanted fs ≡ wanted → ShowsStep result fs (machine.enter fs (mark_shown mark ∷ terminals rest.entry)) }
+    ensures { (fs : List machine.Frame) → machine.wanted fs ≡ wanted →
+        ShowsStep result fs (machine.enter fs (mark_shown mark ∷ terminals rest.entry)) }
 {
     match mark {
         Mark::ConstraintNot => Ok(sign(wanted, Phrase::Negation, "#~", rest)),
@@ -72,7 +74,8 @@ fn enter_mark<'a>(
 
 /// A sign before an operand, where a phrase of its rank is looked for.
 fn sign<'a>(wanted: u8, phrase: Phrase, name: &'a str, rest: Terminals<'a>) -> Turn<'a>
-    ensures { (fs : List machine.Frame) → machine.wanted fs ≡ wanted → ShowsTurn result fs (machine.enter_sign (phrase_shown phrase) name.now fs (terminals rest.entry)) }
+    ensures { (fs : List machine.Frame) → machine.wanted fs ≡ wanted →
+        ShowsTurn result fs (machine.enter_sign (phrase_shown phrase) name.now fs (terminals rest.entry)) }
 {
     let rank = phrase.rank();
     open_when(wanted <= rank, Frame::Signed(phrase, name), rest)

@@ -3,13 +3,13 @@ ghost use Rattle.std.specs.Prelude.{◌≡◌, Bool, not, ◌&&◌, nat_le, List
 ghost use Rattle.pi_syntax.specs.ExpTree.{ExpTree};
 ghost use Rattle.pi_syntax.specs.Grammar.{is_atom};
 ghost use Rattle.pi_syntax.specs.Terminals as t;
-ghost use Rattle.pi_phrases.specs.Machine as machine;
-ghost use Rattle.pi_phrases.specs.Shown.{line_shown, mark_shown, phrase_shown, terminal_shown, terminals};
-ghost use Rattle.pi_phrases.specs.Trees.{Shows};
-ghost use Rattle.pi_phrases.specs.Turns.{ShowsTurn, ShowsStep};
+ghost use Rattle.pi_expr_phrases.specs.Machine as machine;
+ghost use Rattle.pi_expr_phrases.specs.Shown.{line_shown, mark_shown, phrase_shown, terminal_shown, terminals};
+ghost use Rattle.pi_expr_phrases.specs.Trees.{Shows};
+ghost use Rattle.pi_expr_phrases.specs.Turns.{ShowsTurn, ShowsStep};
 
 use crate::arguments::arguments;
-use pi_phrases::{
+use pi_expr_phrases::{
     Ahead, Built, Closing, Frame, Items, Line, Mark, Phrase, Terminal, Terminals, Turn, behind,
     built, front, open_when,
 };
@@ -23,7 +23,8 @@ pub fn go_on<'a>(
     built: Built,
     ts: Terminals<'a>,
 ) -> Result<Turn<'a>, AllocError>
-    ensures { (fs : List machine.Frame) (e : ExpTree) → Shows built e → ShowsStep result fs (machine.continue fs (phrase_shown phrase) indexable e (terminals ts.entry)) }
+    ensures { (fs : List machine.Frame) (e : ExpTree) → Shows built e →
+        ShowsStep result fs (machine.continue fs (phrase_shown phrase) indexable e (terminals ts.entry)) }
 {
     match front(ts) {
         Ahead::Next(first, rest) => go_on_by(alloc, phrase, indexable, built, first, rest),
@@ -39,7 +40,9 @@ fn go_on_by<'a>(
     first: Terminal<'a>,
     rest: Terminals<'a>,
 ) -> Result<Turn<'a>, AllocError>
-    ensures { (fs : List machine.Frame) (e : ExpTree) → Shows built e → ShowsStep result fs (machine.continue fs (phrase_shown phrase) indexable e (terminal_shown first.entry ∷ terminals rest.entry)) }
+    ensures { (fs : List machine.Frame) (e : ExpTree) → Shows built e →
+        ShowsStep result fs (machine.continue fs (phrase_shown phrase) indexable e
+        (terminal_shown first.entry ∷ terminals rest.entry)) }
 {
     match first {
         Terminal::Joint(line, name) => Ok(join(phrase, line, name, built, rest)),
@@ -61,7 +64,8 @@ fn go_on_mark<'a>(
     mark: Mark,
     rest: Terminals<'a>,
 ) -> Result<Turn<'a>, AllocError>
-    ensures { (fs : List machine.Frame) (e : ExpTree) → Shows built e → ShowsStep result fs (machine.continue fs (phrase_shown phrase) indexable e (mark_shown mark ∷ terminals rest.entry)) }
+    ensures { (fs : List machine.Frame) (e : ExpTree) → Shows built e →
+        ShowsStep result fs (machine.continue fs (phrase_shown phrase) indexable e (mark_shown mark ∷ terminals rest.entry)) }
 {
     let rank = phrase.rank();
     match mark {
@@ -91,7 +95,8 @@ fn join<'a>(
     built: Built,
     rest: Terminals<'a>,
 ) -> Turn<'a>
-    ensures { (fs : List machine.Frame) (e : ExpTree) → Shows built e → ShowsTurn result fs (machine.join_line (line_shown line) name.now fs (phrase_shown phrase) e (terminals rest.entry)) }
+    ensures { (fs : List machine.Frame) (e : ExpTree) → Shows built e →
+        ShowsTurn result fs (machine.join_line (line_shown line) name.now fs (phrase_shown phrase) e (terminals rest.entry)) }
 {
     let loose = line.rank();
     let rank = phrase.rank();
@@ -99,14 +104,17 @@ fn join<'a>(
 }
 
 fn relation<'a>(phrase: Phrase, name: &'a str, built: Built, rest: Terminals<'a>) -> Turn<'a>
-    ensures { (fs : List machine.Frame) (e : ExpTree) (b : Bool) → Shows built e → ShowsTurn result fs (machine.continue fs (phrase_shown phrase) b e (t.relation name.now ∷ terminals rest.entry)) }
+    ensures { (fs : List machine.Frame) (e : ExpTree) (b : Bool) → Shows built e →
+        ShowsTurn result fs (machine.continue fs (phrase_shown phrase) b e (t.relation name.now ∷ terminals rest.entry)) }
 {
     let rank = phrase.rank();
     open_when(12 <= rank, Frame::Relation(name, built), rest)
 }
 
 fn index<'a>(rank: u8, indexable: bool, built: Built, rest: Terminals<'a>) -> Turn<'a>
-    ensures { (fs : List machine.Frame) (e : ExpTree) → Shows built e → ShowsTurn result fs (machine.when (nat_le 21 rank && indexable) (machine.opened (machine.indexing e) fs (terminals rest.entry))) }
+    ensures { (fs : List machine.Frame) (e : ExpTree) → Shows built e →
+        ShowsTurn result fs (machine.when (nat_le 21 rank && indexable)
+        (machine.opened (machine.indexing e) fs (terminals rest.entry))) }
 {
     if 21 <= rank {
         open_when(indexable, Frame::Indexing(built), rest)
@@ -121,7 +129,8 @@ fn dot<'a>(
     built: Built,
     rest: Terminals<'a>,
 ) -> Result<Turn<'a>, AllocError>
-    ensures { (fs : List machine.Frame) (e : ExpTree) → Shows built e → ShowsStep result fs (machine.when (nat_le 21 rank && not (is_atom e)) (machine.enter_dot fs e (terminals rest.entry))) }
+    ensures { (fs : List machine.Frame) (e : ExpTree) → Shows built e →
+        ShowsStep result fs (machine.when (nat_le 21 rank && not (is_atom e)) (machine.enter_dot fs e (terminals rest.entry))) }
 {
     if 21 <= rank {
         if built.is_atom() {
@@ -154,7 +163,8 @@ fn method<'a>(
     built: Built,
     ts: Terminals<'a>,
 ) -> Result<Turn<'a>, AllocError>
-    ensures { (fs : List machine.Frame) (e : ExpTree) → Shows built e → ShowsStep result fs (machine.enter_dot fs e (t.atom name.now ∷ terminals ts.entry)) }
+    ensures { (fs : List machine.Frame) (e : ExpTree) → Shows built e →
+        ShowsStep result fs (machine.enter_dot fs e (t.atom name.now ∷ terminals ts.entry)) }
 {
     let items = Items::one(alloc, built)?;
     match behind(Mark::OpenParen, ts) {

@@ -1,12 +1,12 @@
 //! Phrases whose tree was made, or that memory ran out.
 ghost use Rattle.std.specs.Prelude.{false, List, IfOk};
 ghost use Rattle.pi_syntax.specs.ExpTree.{ExpTree};
-ghost use Rattle.pi_phrases.specs.Machine as machine;
-ghost use Rattle.pi_phrases.specs.Shown.{mark_shown, phrase_shown, terminals};
-ghost use Rattle.pi_phrases.specs.Trees.{Shows};
-ghost use Rattle.pi_phrases.specs.Turns.{ShowsStep};
+ghost use Rattle.pi_expr_phrases.specs.Machine as machine;
+ghost use Rattle.pi_expr_phrases.specs.Shown.{mark_shown, phrase_shown, terminals};
+ghost use Rattle.pi_expr_phrases.specs.Trees.{Shows};
+ghost use Rattle.pi_expr_phrases.specs.Turns.{ShowsStep};
 
-use pi_phrases::{Built, Mark, Phrase, Terminals, Turn, found_behind};
+use pi_expr_phrases::{Built, Mark, Phrase, Terminals, Turn, found_behind};
 use std::alloc::AllocError;
 
 /// A phrase that can't be indexed, of the tree that was made.
@@ -15,7 +15,8 @@ pub(crate) fn read_as<'a>(
     made: Result<Built, AllocError>,
     ts: Terminals<'a>,
 ) -> Result<Turn<'a>, AllocError>
-    ensures { (fs : List machine.Frame) (e : ExpTree) → IfOk made (λ built. Shows built e) → ShowsStep result fs (machine.next (machine.value fs (phrase_shown phrase) false e (terminals ts.entry))) }
+    ensures { (fs : List machine.Frame) (e : ExpTree) → IfOk made (λ built. Shows built e) →
+        ShowsStep result fs (machine.next (machine.value fs (phrase_shown phrase) false e (terminals ts.entry))) }
 {
     match made {
         Ok(built) => Ok(Turn::Found(phrase, false, built, ts)),
@@ -29,7 +30,8 @@ pub(crate) fn read_before<'a>(
     made: Result<Built, AllocError>,
     ts: Terminals<'a>,
 ) -> Result<Turn<'a>, AllocError>
-    ensures { (fs : List machine.Frame) (e : ExpTree) → IfOk made (λ built. Shows built e) → ShowsStep result fs (machine.choose (mark_shown mark) (terminals ts.entry) (machine.found fs e) machine.fail) }
+    ensures { (fs : List machine.Frame) (e : ExpTree) → IfOk made (λ built. Shows built e) →
+        ShowsStep result fs (machine.choose (mark_shown mark) (terminals ts.entry) (machine.found fs e) machine.fail) }
 {
     match made {
         Ok(built) => Ok(found_behind(mark, built, ts)),

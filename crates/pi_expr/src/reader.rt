@@ -4,11 +4,11 @@ ghost use Rattle.pi_lex.specs.Kinds.{kinds};
 ghost use Rattle.pi_syntax.specs.Crowding.{IsCrowded, IsRead};
 ghost use Rattle.pi_syntax.specs.ExpTree.{ExpTree, exp_tree};
 ghost use Rattle.pi_expr.specs.Faults.{stretch, IsFault};
-ghost use Rattle.pi_phrases.specs.Machine as machine;
-ghost use Rattle.pi_phrases.specs.Machine.{Runs};
-ghost use Rattle.pi_phrases.specs.Shown.{phrase_shown, terminals};
-ghost use Rattle.pi_phrases.specs.Trees.{Shows};
-ghost use Rattle.pi_phrases.specs.Turns.{ShowsTurn};
+ghost use Rattle.pi_expr_phrases.specs.Machine as machine;
+ghost use Rattle.pi_expr_phrases.specs.Machine.{Runs};
+ghost use Rattle.pi_expr_phrases.specs.Shown.{phrase_shown, terminals};
+ghost use Rattle.pi_expr_phrases.specs.Trees.{Shows};
+ghost use Rattle.pi_expr_phrases.specs.Turns.{ShowsTurn};
 ghost use Rattle.pi_expr.specs.States.{ShowsStack, ShowsState, ShowsOutcome, ShowsResult, EndsAs};
 
 use crate::crowding::is_crowded;
@@ -16,8 +16,8 @@ use crate::enter::enter;
 use crate::fault::ExpFault;
 use crate::go_on::go_on;
 use crate::resume::resume;
+use pi_expr_phrases::{Built, Frame, Phrase, Terminals, Turn, reach};
 use pi_lex::Tokens;
-use pi_phrases::{Built, Frame, Phrase, Terminals, Turn, reach};
 use pi_syntax::Exp;
 use std::alloc::{AllocError, Global};
 
@@ -115,7 +115,8 @@ fn before_operand<'a>(
     stack: &mut Vec<Frame<'a>>,
     ts: Terminals<'a>,
 ) -> Result<Outcome<'a>, AllocError>
-    ensures { (fs : List machine.Frame) → ShowsStack stack.old.items fs → ShowsResult stack.new.items result (machine.enter fs (terminals ts.entry)) }
+    ensures { (fs : List machine.Frame) → ShowsStack stack.old.items fs →
+        ShowsResult stack.new.items result (machine.enter fs (terminals ts.entry)) }
 {
     let wanted = wanted(stack);
     let turn = enter(alloc, wanted, ts)?;
@@ -130,7 +131,9 @@ fn behind_phrase<'a>(
     built: Built,
     ts: Terminals<'a>,
 ) -> Result<Outcome<'a>, AllocError>
-    ensures { (fs : List machine.Frame) (e : ExpTree) → ShowsStack stack.old.items fs → Shows built e → ShowsResult stack.new.items result (machine.step (machine.value fs (phrase_shown phrase) indexable e (terminals ts.entry))) }
+    ensures { (fs : List machine.Frame) (e : ExpTree) → ShowsStack stack.old.items fs → Shows built e →
+        ShowsResult stack.new.items result (machine.step
+        (machine.value fs (phrase_shown phrase) indexable e (terminals ts.entry))) }
 {
     let wanted = wanted(stack);
     let reach = reach(ts);
@@ -149,7 +152,8 @@ fn extend_phrase<'a>(
     built: Built,
     ts: Terminals<'a>,
 ) -> Result<Outcome<'a>, AllocError>
-    ensures { (fs : List machine.Frame) (e : ExpTree) → ShowsStack stack.old.items fs → Shows built e → ShowsResult stack.new.items result (machine.continue fs (phrase_shown phrase) indexable e (terminals ts.entry)) }
+    ensures { (fs : List machine.Frame) (e : ExpTree) → ShowsStack stack.old.items fs → Shows built e →
+        ShowsResult stack.new.items result (machine.continue fs (phrase_shown phrase) indexable e (terminals ts.entry)) }
 {
     let turn = go_on(alloc, phrase, indexable, built, ts)?;
     take(stack, turn)
@@ -161,7 +165,8 @@ fn close_phrase<'a>(
     built: Built,
     ts: Terminals<'a>,
 ) -> Result<Outcome<'a>, AllocError>
-    ensures { (fs : List machine.Frame) (e : ExpTree) → ShowsStack stack.old.items fs → Shows built e → ShowsResult stack.new.items result (machine.resume_last fs e (terminals ts.entry)) }
+    ensures { (fs : List machine.Frame) (e : ExpTree) → ShowsStack stack.old.items fs → Shows built e →
+        ShowsResult stack.new.items result (machine.resume_last fs e (terminals ts.entry)) }
 {
     match stack.pop() {
         Some(frame) => {
@@ -186,7 +191,8 @@ fn finish<'a>(built: Built, ts: Terminals<'a>) -> Outcome<'a>
 
 /// What a turn leads to.
 fn take<'a>(stack: &mut Vec<Frame<'a>>, turn: Turn<'a>) -> Result<Outcome<'a>, AllocError>
-    ensures { (fs : List machine.Frame) (o : machine.Outcome) → ShowsStack stack.old.items fs → ShowsTurn turn.entry fs o → ShowsResult stack.new.items result o }
+    ensures { (fs : List machine.Frame) (o : machine.Outcome) → ShowsStack stack.old.items fs → ShowsTurn turn.entry fs o →
+        ShowsResult stack.new.items result o }
 {
     match turn {
         Turn::Open(frame, rest) => {

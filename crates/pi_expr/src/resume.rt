@@ -1,10 +1,10 @@
 //! The step behind the operand of an open phrase.
 ghost use Rattle.std.specs.Prelude.{List};
 ghost use Rattle.pi_syntax.specs.ExpTree.{ExpTree};
-ghost use Rattle.pi_phrases.specs.Machine as machine;
-ghost use Rattle.pi_phrases.specs.Shown.{terminals};
-ghost use Rattle.pi_phrases.specs.Trees.{Shows};
-ghost use Rattle.pi_phrases.specs.Turns.{ShowsFrame, ShowsStep};
+ghost use Rattle.pi_expr_phrases.specs.Machine as machine;
+ghost use Rattle.pi_expr_phrases.specs.Shown.{terminals};
+ghost use Rattle.pi_expr_phrases.specs.Trees.{Shows};
+ghost use Rattle.pi_expr_phrases.specs.Turns.{ShowsFrame, ShowsStep};
 
 mod brackets;
 mod operators;
@@ -15,7 +15,7 @@ use crate::close::resume_items;
 use crate::resume::brackets::{indexing, list_tail, parens, pattern};
 use crate::resume::operators::{joining, minus, power, range_from, range_step, relation, signed};
 use crate::resume::units::{arrow, branches, conjuncts};
-use pi_phrases::{Built, Frame, Items, Terminals, Turn};
+use pi_expr_phrases::{Built, Frame, Items, Terminals, Turn};
 use std::alloc::{AllocError, Global};
 
 /// The step behind the operand of an open phrase.
@@ -25,7 +25,8 @@ pub fn resume<'a>(
     built: Built,
     ts: Terminals<'a>,
 ) -> Result<Turn<'a>, AllocError>
-    ensures { (fs : List machine.Frame) (f : machine.Frame) (e : ExpTree) → ShowsFrame frame.entry f → Shows built e → ShowsStep result fs (machine.resume f fs e (terminals ts.entry)) }
+    ensures { (fs : List machine.Frame) (f : machine.Frame) (e : ExpTree) → ShowsFrame frame.entry f → Shows built e →
+        ShowsStep result fs (machine.resume f fs e (terminals ts.entry)) }
 {
     match frame {
         Frame::Signed(phrase, name) => signed(alloc, phrase, name, built, ts),

@@ -10,8 +10,8 @@ use Rattle.std.proofs.lemmas.Option.{slice_get-map, slice_get_within, slice_get-
 use Rattle.pi_constraints.specs.declared.domain.Span.{Span}
 use Rattle.pi_constraints.specs.Domain.{IsDomain, has_value, values_of, IsLeastValue, IsGreatestValue, IsWithinBounds}
 use Rattle.pi_constraints.proofs.DomainLemmas.{values_lie_in_spans, values_ascend, values_are_within_bounds}
-use Rattle.pi_filters.specs.Ends.{least_of, greatest_of}
-use Rattle.pi_filters.proofs.EndLemmas.{least-has, greatest-has, least-below, greatest-above}
+use Rattle.pi_prop_spec.specs.Ends.{least_of, greatest_of}
+use Rattle.pi_prop_spec.proofs.EndLemmas.{least-has, greatest-has, least-below, greatest-above}
 use Rattle.pi_settling.specs.Options.{up, down}
 use Rattle.pi_settling.specs.Choices.{Alternative, is_value, at_most, above, halved, middle, alternatives}
 use Rattle.pi_label.specs.declared.options.ValueWord.{ValueWord}

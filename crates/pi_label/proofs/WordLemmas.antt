@@ -15,8 +15,8 @@ use Rattle.pi_effects.specs.Items.{list_items}
 use Rattle.pi_effects.specs.Collections.{list_then}
 use Rattle.pi_effects.specs.Results.{Stops}
 use Rattle.pi_effects.specs.declared.fault.Stop.{Stop}
-use Rattle.pi_builtin.specs.Items.{AreItems}
-use Rattle.pi_builtin.proofs.RowLemmas.{as-many, ItemAt, item-at, none-behind}
+use Rattle.pi_lib_builtin.specs.Items.{AreItems}
+use Rattle.pi_lib_builtin.proofs.RowLemmas.{as-many, ItemAt, item-at, none-behind}
 use Rattle.pi_settling.specs.Options.{VariableWord as Picks, forward, backward, ff, ValueWord as Tries, up, down, split, reverse_split, Objective as Wanted, Word as Meant, picks, tries, seeks, named_word, objective_word, word_of, Chosen as Had, set_variable, set_value, set_objective, with_word, variable_or, value_or, read_on, words_read, read_options}
 use Rattle.pi_settling.specs.Asked.{raises, with_words, with_options}
 use Rattle.pi_label.specs.OptionLaws.{CallsGoByOptions}

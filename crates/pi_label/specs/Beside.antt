@@ -2,7 +2,7 @@
 use Rattle.std.specs.Prelude.{◌≡◌, ◌≢◌, ℤ, ◌≤ℤ◌, ◌<ℤ◌, IsTrue, List, [], Option, Some, None}
 use Rattle.pi_constraints.specs.declared.domain.Span.{Span}
 use Rattle.pi_constraints.specs.Domain.{IsWithinBounds, has_value}
-use Rattle.pi_filters.specs.Ends.{least_of, greatest_of}
+use Rattle.pi_prop_spec.specs.Ends.{least_of, greatest_of}
 
 -- the least value above n, or none
 abbrev pub IsNextAbove : List Span → ℤ → Option ℤ → Type 0

@@ -27,7 +27,9 @@ pub fn choices(
     d: &Domain,
     after: Option<Choice>,
 ) -> Result<Option<Choice>, AllocError>
-    ensures { IfOk result (λ found. (d.now ≡ [] → ⊥) → Follows (alternatives (value_word options.now.value) d.now) (option_map alternative_of after) (option_map alternative_of found)) }
+    ensures { IfOk result (λ found. (d.now ≡ [] → ⊥) →
+        Follows (alternatives (value_word options.now.value) d.now) (option_map alternative_of after)
+        (option_map alternative_of found)) }
 {
     let Some(ends) = ends(d) else {
         return Ok(None);
@@ -42,7 +44,8 @@ pub fn choices(
 fn first(word: ValueWord, ends: Span) -> Choice
     requires low { IsWithinBounds ends.lo }
     requires high { IsWithinBounds ends.hi }
-    ensures { (d : List Span) → IsDomain d → AreEnds d ends → Some (alternative_of result) ≡ slice_get (alternatives (value_word word) d) 0 }
+    ensures { (d : List Span) → IsDomain d → AreEnds d ends →
+        Some (alternative_of result) ≡ slice_get (alternatives (value_word word) d) 0 }
 {
     match word {
         ValueWord::Up => Choice::Is(ends.lo),
@@ -60,7 +63,8 @@ fn behind(
     choice: Choice,
 ) -> Result<Option<Choice>, AllocError>
     requires { IsDomain d.now }
-    ensures { IfOk result (λ found. Follows (alternatives (value_word word) d.now) (Some (alternative_of choice)) (option_map alternative_of found)) }
+    ensures { IfOk result (λ found. Follows (alternatives (value_word word) d.now) (Some (alternative_of choice))
+        (option_map alternative_of found)) }
 {
     match choice {
         Choice::Is(n) => beside(alloc, word, d, n),

@@ -5,16 +5,16 @@ ghost use Rattle.pi_constraints.specs.Value.{value};
 ghost use Rattle.pi_constraints.specs.State.{bindings, followed};
 ghost use Rattle.pi_constraints.specs.Store.{IsTerm};
 ghost use Rattle.pi_unify.specs.Terms.{HoldsNoCycle};
-ghost use Rattle.pi_builtin.specs.Items.{AreItems};
+ghost use Rattle.pi_lib_builtin.specs.Items.{AreItems};
 ghost use Rattle.pi_settling.specs.Options.{Chosen as ChosenWords, read_options as words_of, with_word, word_of};
 ghost use Rattle.pi_label.specs.Reads.{AreChosen, ShowsChosen, ShowsWords, ShowsMeasured, ShowsOptions, refusal_of};
 
 use crate::fault::OptFault;
 use crate::options::{Objective, Options, ValueWord, VariableWord};
 use crate::words::{Word, word_at};
-use pi_builtin::list_items;
 use pi_constraints::{ReadStop, Ref, StateStore};
 use pi_effects::Stop;
+use pi_lib_builtin::list_items;
 use std::alloc::Global;
 
 /// What was chosen so far, of each group.
@@ -51,7 +51,8 @@ fn refusal(stop: Stop, options: Ref) -> OptFault
 
 /// Refuses a term with too many cells.
 fn measure<S: StateStore>(alloc: Global, s: &S, options: Ref) -> Result<(), OptFault>
-    ensures { (t : Tree) → HoldsNoCycle (S.seen s.now) → IsTerm (S.seen s.now) options t → ShowsMeasured (value (bindings (S.seen s.now).now.state) t) result }
+    ensures { (t : Tree) → HoldsNoCycle (S.seen s.now) → IsTerm (S.seen s.now) options t →
+        ShowsMeasured (value (bindings (S.seen s.now).now.state) t) result }
 {
     match s.read_term(alloc, options) {
         Ok(_) => Ok(()),
@@ -62,7 +63,8 @@ fn measure<S: StateStore>(alloc: Global, s: &S, options: Ref) -> Result<(), OptF
 
 /// The options that these words are.
 fn read_words<S: StateStore>(s: &S, words: &[Ref]) -> Result<Options, OptFault>
-    ensures { (ts : List Tree) → HoldsNoCycle (S.seen s.now) → AreItems (S.seen s.now) words.now ts → ShowsWords (S.seen s.now) result (words_of (map (followed (bindings (S.seen s.now).now.state)) ts)) }
+    ensures { (ts : List Tree) → HoldsNoCycle (S.seen s.now) → AreItems (S.seen s.now) words.now ts →
+        ShowsWords (S.seen s.now) result (words_of (map (followed (bindings (S.seen s.now).now.state)) ts)) }
 {
     let mut chosen = Chosen {
         variable: None,
@@ -84,7 +86,9 @@ fn read_words<S: StateStore>(s: &S, words: &[Ref]) -> Result<Options, OptFault>
 
 /// One word more; None where it is none, or a second one of its group.
 fn chosen_with<S: StateStore>(s: &S, chosen: Chosen, term: Ref) -> Option<Chosen>
-    ensures { (t : Tree) (c : ChosenWords) → HoldsNoCycle (S.seen s.now) → IsTerm (S.seen s.now) term t → AreChosen (S.seen s.now) chosen c → ShowsChosen (S.seen s.now) result (with_word c (word_of (followed (bindings (S.seen s.now).now.state) t))) }
+    ensures { (t : Tree) (c : ChosenWords) → HoldsNoCycle (S.seen s.now) → IsTerm (S.seen s.now) term t →
+        AreChosen (S.seen s.now) chosen c → ShowsChosen (S.seen s.now) result
+        (with_word c (word_of (followed (bindings (S.seen s.now).now.state) t))) }
 {
     let Some(word) = word_at(s, term) else {
         return None;

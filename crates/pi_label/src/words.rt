@@ -21,7 +21,8 @@ pub(crate) enum Word {
 
 /// The word that a term is, with bindings followed.
 pub(crate) fn word_at<S: StateStore>(s: &S, term: Ref) -> Option<Word>
-    ensures { (t : Tree) → HoldsNoCycle (S.seen s.now) → IsTerm (S.seen s.now) term t → ShowsWord (S.seen s.now) result (word_of (followed (bindings (S.seen s.now).now.state) t)) }
+    ensures { (t : Tree) → HoldsNoCycle (S.seen s.now) → IsTerm (S.seen s.now) term t →
+        ShowsWord (S.seen s.now) result (word_of (followed (bindings (S.seen s.now).now.state) t)) }
 {
     match s.look(term) {
         Cell::Var(_) => None,
@@ -85,7 +86,8 @@ fn value_named(name: &str) -> Option<ValueWord>
 
 /// The objective that this name makes of an expression.
 fn objective_named<S: StateStore>(s: &S, name: u64, expression: Ref) -> Option<Objective>
-    ensures { (f : List ℕ) (t : Tree) → IsName (S.seen s.now) name f → IsTerm (S.seen s.now) expression t → ShowsObjective (S.seen s.now) result (objective_word f t) }
+    ensures { (f : List ℕ) (t : Tree) → IsName (S.seen s.now) name f → IsTerm (S.seen s.now) expression t →
+        ShowsObjective (S.seen s.now) result (objective_word f t) }
 {
     let name = s.name(name);
     if name == "min" {

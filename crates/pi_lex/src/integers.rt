@@ -79,7 +79,8 @@ fn goes_on(text: &[char], radix: u32, at: usize) -> bool
 fn number_of(digits: &[char], radix: u32) -> Option<i128>
     requires low { 2 ≤ radix }
     requires high { radix ≤ 16 }
-    ensures { result ≡ (if nat_le (spec.number_of radix digits.now) spec.largest then Some (pos (spec.number_of radix digits.now)) else None) }
+    ensures { result ≡ (if nat_le (spec.number_of radix digits.now) spec.largest then Some
+        (pos (spec.number_of radix digits.now)) else None) }
 {
     let mut number = 0u128;
     for c in digits {

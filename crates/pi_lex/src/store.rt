@@ -208,7 +208,8 @@ impl Store {
     /// Keeps what the characters between two quotes stand for.
     fn unescape(&mut self, kind: Kind, inside: &[char]) -> Result<Form, AllocError>
         requires { HasRoom self.old (length inside.now + 1) }
-        ensures { IfOk result (λ form. IsKept self.old self.new form (said kind (encode_utf8_all (unescaped false inside.now))) (length inside.now)) }
+        ensures { IfOk result (λ form. IsKept self.old self.new form (said kind (encode_utf8_all (unescaped false inside.now)))
+            (length inside.now)) }
     {
         let from = self.buffer.len();
         push_unescaped(&mut self.buffer, inside)?;
@@ -220,7 +221,8 @@ impl Store {
         requires span { IsSpan (string_bytes self.old.buffer) (span from (string_len self.old.buffer - from)) }
         requires buffer { string_len self.old.buffer < 2 ^ 32 }
         requires longs { vec_len self.old.longs < 2 ^ 24 }
-        ensures { IfOk result (λ form. IsKept self.old self.new form (said kind (spanned (string_bytes self.old.buffer) (span from (string_len self.old.buffer - from)))) 0) }
+        ensures { IfOk result (λ form. IsKept self.old self.new form
+            (said kind (spanned (string_bytes self.old.buffer) (span from (string_len self.old.buffer - from)))) 0) }
     {
         let place = self.buffer.len();
         let len = place - from;

@@ -2,8 +2,8 @@
 ghost use Rattle.std.specs.Prelude.{◌≡◌, ◌∷◌, [], List, ℕ, Some, IfOk};
 ghost use Rattle.pi_core.specs.GoalTree.{GoalTree, tick, seq, goals_of};
 ghost use Rattle.pi_core.specs.CoreTree.{PredTree};
-ghost use Rattle.pi_meaning.specs.Names.{is_call, is_catch};
-ghost use Rattle.pi_meaning.specs.NamedGoals.{goal_by_name, slots_from, call_of_slot, catch_of_slots, call_of_slots};
+ghost use Rattle.pi_meaning.specs.Shared.Names.{is_call, is_catch};
+ghost use Rattle.pi_meaning.specs.Machine.NamedGoals.{goal_by_name, slots_from, call_of_slot, catch_of_slots, call_of_slots};
 
 use pi_core::CoreGoal;
 use pi_terms::Term;
@@ -75,7 +75,7 @@ fn behind_tick(alloc: Global, goal: CoreGoal) -> Result<CoreGoal, AllocError>
 }
 
 /// So many slots, from the first one on.
-#[tactic(auto, unfolding(crate::specs::NamedGoals::slots_from))]
+#[tactic(auto, unfolding(crate::specs::Machine::NamedGoals::slots_from))]
 fn slots_below(alloc: Global, count: u32) -> Result<Vec<Term>, AllocError>
     ensures { IfOk result (λ made. made.items ≡ slots_from 0 count) }
 {

@@ -28,7 +28,12 @@ pub trait Files {
         ensures end { IfOk result (λ n. n ≡ 0 → 0 < length into.old → EndsBy (held self.new) name.now at) }
         ensures behind { IfOk result (λ n. drop n into.new ≡ drop n into.old) }
         ensures keeps { Keeps (held self.old) (held self.new) }
-        ensures did { has_read self.old (record { name = name.now; from = at; room = length into.old; gave = given_by result into.new }) self.new }
+        ensures did { has_read self.old (record {
+          name = name.now;
+          from = at;
+          room = length into.old;
+          gave = given_by result into.new;
+        }) self.new }
 
         ensures never_falls { NeverFalls (faults self.old) (faults self.new) }
         ensures rose { OnErr result (Rose (faults self.old) (faults self.new)) }

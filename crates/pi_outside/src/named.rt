@@ -26,7 +26,8 @@ impl Named {
 
     /// Adds a file, in the place of any that has its name.
     pub(crate) fn add(&mut self, name: &str, bytes: &[u8]) -> Result<(), AllocError>
-        ensures ok { OnOk result ((other : List ℕ) → added_files self.new other ≡ with_file (added_files self.old) name.now bytes.now other) }
+        ensures ok { OnOk result ((other : List ℕ) → added_files self.new other ≡
+            with_file (added_files self.old) name.now bytes.now other) }
         ensures err { OnErr result ((other : List ℕ) → added_files self.new other ≡ added_files self.old other) }
     {
         let key = String::from_str(self.alloc, name)?;

@@ -67,7 +67,9 @@ pub(crate) fn unfold(
     entry: &GivenState,
 ) -> Result<(), AllocError>
     ensures by_rest { search.new.by_rest ≡ search.old.by_rest }
-    ensures ready { (w : Wanted) (given : List GivenState) → IsAnswered w given search.old parent → slice_get given (length given - 1) ≡ Some entry.now → entry.now.is_final ≡ false → OnOk result (IsReady w given search.new) }
+    ensures ready { (w : Wanted) (given : List GivenState) → IsAnswered w given search.old parent →
+        slice_get given (length given - 1) ≡ Some entry.now → entry.now.is_final ≡ false →
+        OnOk result (IsReady w given search.new) }
 {
     let Some(way) = way_at(&search.ways, parent) else {
         return Ok(());
@@ -88,7 +90,8 @@ pub(crate) fn advance(
     limit: u128,
 ) -> Result<Option<usize>, AllocError>
     ensures by_rest { search.new.by_rest ≡ search.old.by_rest }
-    ensures advances { (w : Wanted) (given : List GivenState) → w.start ≡ start.now → w.limit ≡ limit → IsReady w given search.old → IfOk result (Advances w given search.new) }
+    ensures advances { (w : Wanted) (given : List GivenState) → w.start ≡ start.now → w.limit ≡ limit →
+        IsReady w given search.old → IfOk result (Advances w given search.new) }
 {
     loop {
         if let Some(way) = search.pop() {
@@ -106,7 +109,8 @@ fn begin_next(search: &mut Search, alloc: Global, start: &Term) -> Result<(), Al
     requires { search.old.whole < 2 ^ 128 - 1 }
     ensures by_rest { search.new.by_rest ≡ search.old.by_rest }
     ensures whole { OnOk result (search.new.whole ≡ search.old.whole + 1) }
-    ensures ready { (w : Wanted) (given : List GivenState) → w.start ≡ start.now → search.old.whole < w.limit → IsSpent w given search.old → OnOk result (IsReady w given search.new) }
+    ensures ready { (w : Wanted) (given : List GivenState) → w.start ≡ start.now → search.old.whole < w.limit →
+        IsSpent w given search.old → OnOk result (IsReady w given search.new) }
 {
     search.whole += 1;
     search.ways.clear();
@@ -116,7 +120,9 @@ fn begin_next(search: &mut Search, alloc: Global, start: &Term) -> Result<(), Al
 
 /// The plan that a way is, as the list of its actions.
 pub(crate) fn plan_of(alloc: Global, ways: &[Way], number: usize) -> Result<Term, AllocError>
-    ensures { (given : List GivenState) (by_rest : Bool) (start : Tree) (whole : ℕ) (w : Way) → AreWays (over given by_rest) start whole ways.now → slice_get ways.now number ≡ Some w → GivenFinal given by_rest w.place.state w.rest → IfOk result (IsPlan given by_rest start whole (whole - w.rest)) }
+    ensures { (given : List GivenState) (by_rest : Bool) (start : Tree) (whole : ℕ) (w : Way) →
+        AreWays (over given by_rest) start whole ways.now → slice_get ways.now number ≡ Some w →
+        GivenFinal given by_rest w.place.state w.rest → IfOk result (IsPlan given by_rest start whole (whole - w.rest)) }
 {
     let actions = actions_to(alloc, ways, number)?;
     let plan = list_of(alloc, &actions)?;
@@ -125,7 +131,11 @@ pub(crate) fn plan_of(alloc: Global, ways: &[Way], number: usize) -> Result<Term
 
 /// The actions of a way, from the last one back.
 fn actions_to(alloc: Global, ways: &[Way], number: usize) -> Result<Vec<&Term>, AllocError>
-    ensures { (given : List GivenState) (by_rest : Bool) (start : Tree) (whole : ℕ) (w : Way) → AreWays (over given by_rest) start whole ways.now → slice_get ways.now number ≡ Some w → GivenFinal given by_rest w.place.state w.rest → IfOk result (λ actions. Valid (over given by_rest) start whole (reverse (map (λ a. a.now) actions.items)) (whole - w.rest)) }
+    ensures { (given : List GivenState) (by_rest : Bool) (start : Tree) (whole : ℕ) (w : Way) →
+        AreWays (over given by_rest) start whole ways.now → slice_get ways.now number ≡ Some w →
+        GivenFinal given by_rest w.place.state w.rest →
+        IfOk result (λ actions. Valid (over given by_rest) start whole (reverse (map (λ a. a.now) actions.items))
+        (whole - w.rest)) }
 {
     let mut actions = Vec::new(alloc);
     let mut at = number;

@@ -1,4 +1,5 @@
-//! Plans: what a planner is given, as data; steps, valid plans and exhausted numbers, as definitions with their laws; and the planner's search, by cost, or by rests.
+//! Plans: what a planner is given, as data; steps, valid plans and exhausted numbers, as definitions with their laws; and the
+//! planner's search, by cost, or by rests.
 #![tactic(auto)]
 
 mod advance;

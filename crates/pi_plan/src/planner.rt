@@ -133,7 +133,8 @@ impl Planner {
     fn go_on(&mut self) -> Result<PlanStep, AllocError>
         ensures same { IsSameCall self.old self.new }
         ensures given { self.new.given ≡ self.old.given }
-        ensures goes { IsSound self.old → OnOk result (GoesOn self.old.stage self.new.stage (wanted_of self.old) self.old.given self.new.search) }
+        ensures goes { IsSound self.old → OnOk result
+            (GoesOn self.old.stage self.new.stage (wanted_of self.old) self.old.given self.new.search) }
         ensures tells { IfOk result (Tells self.new.stage self.new.search.ways.items) }
         ensures lacks { IsSound self.old → OnErr result (MayLack self.old.stage) }
     {
@@ -144,7 +145,8 @@ impl Planner {
     fn reach_stage(&mut self) -> Result<(), AllocError>
         ensures same { IsSameCall self.old self.new }
         ensures given { self.new.given ≡ self.old.given }
-        ensures goes { IsSound self.old → OnOk result (GoesOn self.old.stage self.new.stage (wanted_of self.old) self.old.given self.new.search) }
+        ensures goes { IsSound self.old → OnOk result
+            (GoesOn self.old.stage self.new.stage (wanted_of self.old) self.old.given self.new.search) }
         ensures lacks { OnErr result (MayLack self.old.stage) }
     {
         match &self.stage {

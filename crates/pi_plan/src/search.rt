@@ -112,7 +112,8 @@ impl Search {
     /// Adds the start under the whole limit.
     pub(crate) fn add_start(&mut self, alloc: Global, start: &Term) -> Result<(), AllocError>
         ensures keeps { Keeps self.old self.new }
-        ensures adds { OnOk result (Adds self.old self.new (place_of self.old.by_rest start.now self.old.whole) (start_way self.old.by_rest start.now self.old.whole) (weight self.old.by_rest self.old.whole self.old.whole)) }
+        ensures adds { OnOk result (Adds self.old self.new (place_of self.old.by_rest start.now self.old.whole)
+            (start_way self.old.by_rest start.now self.old.whole) (weight self.old.by_rest self.old.whole self.old.whole)) }
     {
         let rest = self.whole;
         let place = self.place(alloc, start, rest)?;
@@ -163,7 +164,8 @@ impl Search {
     /// Takes the first way that is due to a place that wasn't asked for, and counts the place as asked for.
     pub(crate) fn pop(&mut self) -> Option<usize>
         ensures keeps { Keeps self.old self.new }
-        ensures pops { (level : ℕ) (unfolded : List GivenState) (asked : List Asked) → IsSearchNow self.old level unfolded asked → Pops self.old self.new level unfolded asked result }
+        ensures pops { (level : ℕ) (unfolded : List GivenState) (asked : List Asked) → IsSearchNow self.old level unfolded asked →
+            Pops self.old self.new level unfolded asked result }
     {
         while let Some(due) = self.frontier.pop_first() {
             if self.take(due) {
@@ -177,7 +179,8 @@ impl Search {
     fn take(&mut self, due: Due) -> bool
         ensures keeps { Keeps self.old self.new }
         ensures frontier { self.new.frontier.keys ≡ self.old.frontier.keys }
-        ensures takes { (level : ℕ) (unfolded : List GivenState) (asked : List Asked) → IsFirst self.old level unfolded asked due → Taken self.old self.new level unfolded asked due.way result }
+        ensures takes { (level : ℕ) (unfolded : List GivenState) (asked : List Asked) → IsFirst self.old level unfolded asked due →
+            Taken self.old self.new level unfolded asked due.way result }
     {
         let Some(way) = way_at(&self.ways, due.way) else {
             return false;

@@ -2,7 +2,7 @@
 use Rattle.std.proofs.Common.{◌≡◌, ℕ, zero, suc, List, map, Option, Some, None, refl, subst}
 use Rattle.pi_syntax.specs.ExpTree.{ExpTree}
 use Rattle.pi_syntax.specs.Grammar.{HasExp}
-use Rattle.pi_phrases.specs.Machine.{State, Outcome, next, done, fail, step, begin, Runs, stop, go}
+use Rattle.pi_expr_phrases.specs.Machine.{State, Outcome, next, done, fail, step, begin, Runs, stop, go}
 use Rattle.pi_syntax.specs.Terminals.{terminal}
 use Rattle.pi_syntax.specs.Tokens.{Token}
 use Rattle.pi_expr.proofs.Exact.{runs_from}

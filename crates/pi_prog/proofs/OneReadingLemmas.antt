@@ -8,12 +8,12 @@ use Rattle.pi_syntax.specs.Grammar.{HasExp}
 use Rattle.pi_syntax.specs.ProgramTree.{ProgramTree}
 use Rattle.pi_syntax.specs.Tokens.{Token, Var, Atom, Word, Int, Str, Sign, End, is_one_of}
 use Rattle.pi_syntax.specs.declared.program.Mode.{Mode}
-use Rattle.pi_clauses.specs.Declaration.{Opening, importing, indexing, misdeclared, imported, is_sign, mode_of, Modes, last_mode, more_modes, ModeList, mode_list, ModeLists, no_more, one_more, Declares, imports, no_imports, indexes, no_indexes, others, Opens, clause_alone, declaration}
-use Rattle.pi_clauses.specs.GoalVerdict.{GoalVerdict, JudgesGoal, goal_too_deep, no_goal, an_expression, goal_verdict, HasGoalVerdict}
-use Rattle.pi_clauses.specs.Reading.{Reading, imports_part, written, variable_names, IsDeepShape, HasNoShape, ClauseOf, whole, behind_index, Reads, crowded, no_declaration, not_ended, an_import, without_form, too_many_levels, a_clause, ReadAll, none, next}
-use Rattle.pi_clauses.specs.Shape.{Shape, bare, ruled, Sides, sides, HasShape, without_arrow, with_arrow}
-use Rattle.pi_clauses.specs.Stretch.{Stretch}
-use Rattle.pi_clauses.specs.Verdict.{Verdict, HasVerdict, judged, verdict}
+use Rattle.pi_prog_clauses.specs.Declaration.{Opening, importing, indexing, misdeclared, imported, is_sign, mode_of, Modes, last_mode, more_modes, ModeList, mode_list, ModeLists, no_more, one_more, Declares, imports, no_imports, indexes, no_indexes, others, Opens, clause_alone, declaration}
+use Rattle.pi_prog_clauses.specs.GoalVerdict.{GoalVerdict, JudgesGoal, goal_too_deep, no_goal, an_expression, goal_verdict, HasGoalVerdict}
+use Rattle.pi_prog_clauses.specs.Reading.{Reading, imports_part, written, variable_names, IsDeepShape, HasNoShape, ClauseOf, whole, behind_index, Reads, crowded, no_declaration, not_ended, an_import, without_form, too_many_levels, a_clause, ReadAll, none, next}
+use Rattle.pi_prog_clauses.specs.Shape.{Shape, bare, ruled, Sides, sides, HasShape, without_arrow, with_arrow}
+use Rattle.pi_prog_clauses.specs.Stretch.{Stretch}
+use Rattle.pi_prog_clauses.specs.Verdict.{Verdict, HasVerdict, judged, verdict}
 
 -- ---- mode lists
 

@@ -3,11 +3,11 @@ use Rattle.std.proofs.Common.{◌≡◌, ◌<◌, ◌≤◌, Bool, true, false, 
 use Rattle.std.proofs.lemmas.List.Sums.{count_by-le-length}
 use Rattle.std.proofs.lemmas.List.{length-take}
 use Rattle.pi_syntax.specs.Crowding.{IsCrowded, most_open, most_levels, is_opening, is_block_word}
-use Rattle.pi_clauses.specs.Declaration.{declared, undeclared, Opens, clause_alone}
+use Rattle.pi_prog_clauses.specs.Declaration.{declared, undeclared, Opens, clause_alone}
 use Rattle.pi_syntax.specs.ExpTree.{ExpTree, levels}
-use Rattle.pi_clauses.specs.Reading.{Reading, written, variable_names, IsDeepShape, whole, Reads, a_clause, ReadAll, none, next}
-use Rattle.pi_clauses.specs.Shape.{Shape, bare, ruled, Sides, sides, HasShape, with_arrow}
-use Rattle.pi_clauses.specs.Stretch.{Stretch}
+use Rattle.pi_prog_clauses.specs.Reading.{Reading, written, variable_names, IsDeepShape, whole, Reads, a_clause, ReadAll, none, next}
+use Rattle.pi_prog_clauses.specs.Shape.{Shape, bare, ruled, Sides, sides, HasShape, with_arrow}
+use Rattle.pi_prog_clauses.specs.Stretch.{Stretch}
 use Rattle.pi_syntax.specs.Tokens.{Token}
 use Rattle.pi_prog.proofs.ExpressionLemmas.{exp_in, exp-has}
 use Rattle.pi_prog.proofs.TokenLemmas.{some_is}

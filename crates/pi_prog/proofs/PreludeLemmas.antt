@@ -10,23 +10,23 @@ use Rattle.pi_syntax.specs.ExpTree.{levels}
 use Rattle.pi_syntax.specs.ProgramTree.{ProgramTree}
 use Rattle.pi_syntax.specs.Terminals.{sign_terminal, word_terminal}
 use Rattle.pi_syntax.specs.Tokens.{Located, HasTokens, utf8, most_bytes, item_at, variable, atom_or_word, is_reserved, integer, is_end_point, sign}
-use Rattle.pi_phrases.specs.Machine.{step}
-use Rattle.pi_clauses.specs.Reading.{Reading, ReadAll}
-use Rattle.pi_clauses.specs.Shape.{sides, conditions, events_in, listed}
-use Rattle.pi_clauses.specs.Stretch.{stretches, stretches_behind}
-use Rattle.pi_clauses.specs.Verdict.{judged, parts_of}
-use Rattle.pi_clauses.specs.Items.{has_bad_head, is_function_with_choice_or_events, is_open_action_rule, has_bad_events, misplaces, misassigns, has_stray_at, lacks_goal}
-use Rattle.pi_clauses.specs.Operators.{is_operator, is_goal_sign, is_assignment, is_membership, is_relation, is_constraint, is_reified, is_arithmetic}
-use Rattle.pi_clauses.specs.Places.{all_placed}
+use Rattle.pi_expr_phrases.specs.Machine.{step}
+use Rattle.pi_prog_clauses.specs.Reading.{Reading, ReadAll}
+use Rattle.pi_prog_clauses.specs.Shape.{sides, conditions, events_in, listed}
+use Rattle.pi_prog_clauses.specs.Stretch.{stretches, stretches_behind}
+use Rattle.pi_prog_clauses.specs.Verdict.{judged, parts_of}
+use Rattle.pi_prog_clauses.specs.Items.{has_bad_head, is_function_with_choice_or_events, is_open_action_rule, has_bad_events, misplaces, misassigns, has_stray_at, lacks_goal}
+use Rattle.pi_prog_clauses.specs.Operators.{is_operator, is_goal_sign, is_assignment, is_membership, is_relation, is_constraint, is_reified, is_arithmetic}
+use Rattle.pi_prog_clauses.specs.Places.{all_placed}
 use Rattle.pi_syntax.specs.Signature.{exp_count}
-use Rattle.pi_clauses.specs.Seen.{all_seen}
-use Rattle.pi_clauses.specs.Shown.{AreShown}
-use Rattle.pi_clauses.specs.declared.parts.PartReading.{PartReading}
+use Rattle.pi_prog_clauses.specs.Seen.{all_seen}
+use Rattle.pi_prog_clauses.specs.Shown.{AreShown}
+use Rattle.pi_prog_clauses.specs.declared.parts.PartReading.{PartReading}
 use Rattle.pi_lex.proofs.ReaderLemmas.{one_reading_lem}
 use Rattle.pi_prog.proofs.OneReadingLemmas.{one_reading}
 use Rattle.pi_prog.proofs.ProgramLemmas.{all_shown}
 use Rattle.pi_prog.specs.ReadsAs.{is_refused, ReadsAs}
-use Rattle.pi_meaning.specs.Prelude.{prelude}
+use Rattle.pi_meaning.specs.OverNames.Prelude.{prelude}
 use Rattle.pi_prog.proofs.ExpressionLemmas.{exp_in, exp_from}
 use Rattle.pi_prog.proofs.PartLemmas.{both, rule_in, rules_in, rules-read}
 use Rattle.pi_prog.proofs.TokenLemmas.{some_is, tokens_in, tokens-read}

@@ -2,17 +2,17 @@
 use Rattle.std.proofs.Common.{◌≡◌, inl, inr, List, ◌∷◌, map, Err, refl, ap, ◌∙◌, sym, subst}
 use Rattle.pi_syntax.specs.ProgramTree.{source_tree}
 use Rattle.pi_syntax.specs.Tokens.{Token}
-use Rattle.pi_clauses.specs.Seen.{seen}
-use Rattle.pi_clauses.specs.Verdict.{JudgedPart, JudgedClause, libraries, one_clause, judged_clause, judged, parts_of, verdict, Verdict, a_program, HasVerdict}
-use Rattle.pi_clauses.specs.Faults.{IsTold, IsProgramFault, AnswersProgram}
-use Rattle.pi_clauses.specs.Reading.{Reading, too_deep, misdeclared_part, no_clause, imports_part, written, ReadAll}
-use Rattle.pi_clauses.specs.Shown.{IsShown, AreShown}
-use Rattle.pi_clauses.specs.Shown as shown
-use Rattle.pi_clauses.specs.Stretch.{stretches}
-use Rattle.pi_clauses.specs.declared.prog_fault.ProgFault.{ProgFault}
-use Rattle.pi_clauses.specs.declared.prog_fault.ProgFault.TheVariants as fault
-use Rattle.pi_clauses.specs.declared.parts.PartReading.{PartReading}
-use Rattle.pi_clauses.specs.declared.parts.PartReading.TheVariants as part
+use Rattle.pi_prog_clauses.specs.Seen.{seen}
+use Rattle.pi_prog_clauses.specs.Verdict.{JudgedPart, JudgedClause, libraries, one_clause, judged_clause, judged, parts_of, verdict, Verdict, a_program, HasVerdict}
+use Rattle.pi_prog_clauses.specs.Faults.{IsTold, IsProgramFault, AnswersProgram}
+use Rattle.pi_prog_clauses.specs.Reading.{Reading, too_deep, misdeclared_part, no_clause, imports_part, written, ReadAll}
+use Rattle.pi_prog_clauses.specs.Shown.{IsShown, AreShown}
+use Rattle.pi_prog_clauses.specs.Shown as shown
+use Rattle.pi_prog_clauses.specs.Stretch.{stretches}
+use Rattle.pi_prog_clauses.specs.declared.prog_fault.ProgFault.{ProgFault}
+use Rattle.pi_prog_clauses.specs.declared.prog_fault.ProgFault.TheVariants as fault
+use Rattle.pi_prog_clauses.specs.declared.parts.PartReading.{PartReading}
+use Rattle.pi_prog_clauses.specs.declared.parts.PartReading.TheVariants as part
 use Rattle.pi_syntax.specs.declared.program.Program.{Program}
 use Rattle.pi_prog.proofs.OneReadingLemmas.{one_program}
 

@@ -3,8 +3,8 @@ use Rattle.std.specs.Prelude.{◌≡◌, ◌≤◌, ℕ, List, [], ◌∷◌, �
 use Rattle.pi_syntax.specs.Tokens.{Token}
 use Rattle.pi_expr.specs.Faults as faults
 use Rattle.pi_prog.specs.Pieces.{ShowsPart}
-use Rattle.pi_clauses.specs.Stretch.{Stretch, stretches, stretches_behind}
-use Rattle.pi_clauses.specs.declared.parts.PartReading.{PartReading}
+use Rattle.pi_prog_clauses.specs.Stretch.{Stretch, stretches, stretches_behind}
+use Rattle.pi_prog_clauses.specs.declared.parts.PartReading.{PartReading}
 
 -- each part is shown by the reading at its place
 pub data Parts : List Stretch → List PartReading → Type 0 where

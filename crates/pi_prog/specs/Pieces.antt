@@ -14,15 +14,15 @@ use Rattle.pi_syntax.specs.Tokens.{Token, Var, Atom, End, is_one_of}
 use Rattle.pi_syntax.specs.declared.exp.Exp.{Exp}
 use Rattle.pi_syntax.specs.declared.program.Clause.{Clause}
 use Rattle.pi_syntax.specs.declared.program.Mode.{Mode}
-use Rattle.pi_clauses.specs.Declaration.{Opening, undeclared, importing, indexing, misdeclared, libraries, imported, declared, ModeList, ModeLists, Modes, Declares, Opens}
-use Rattle.pi_clauses.specs.Formed.{IsFormed}
-use Rattle.pi_clauses.specs.Reading as spec
-use Rattle.pi_clauses.specs.Reading.{IsDeepShape, HasNoShape, variable_names}
-use Rattle.pi_clauses.specs.Shape.{Shape, bare, ruled, HasShape, Sides, sides, equation, clause_of, shape_events, is_open, events_in, conditions, first_unit, other_units}
-use Rattle.pi_clauses.specs.Shown.{IsShown}
-use Rattle.pi_clauses.specs.Stretch.{Stretch}
-use Rattle.pi_clauses.specs.Verdict.{has_bad_form, has_too_many_names, different}
-use Rattle.pi_clauses.specs.declared.clause.FormedClause.{FormedClause}
+use Rattle.pi_prog_clauses.specs.Declaration.{Opening, undeclared, importing, indexing, misdeclared, libraries, imported, declared, ModeList, ModeLists, Modes, Declares, Opens}
+use Rattle.pi_prog_clauses.specs.Formed.{IsFormed}
+use Rattle.pi_prog_clauses.specs.Reading as spec
+use Rattle.pi_prog_clauses.specs.Reading.{IsDeepShape, HasNoShape, variable_names}
+use Rattle.pi_prog_clauses.specs.Shape.{Shape, bare, ruled, HasShape, Sides, sides, equation, clause_of, shape_events, is_open, events_in, conditions, first_unit, other_units}
+use Rattle.pi_prog_clauses.specs.Shown.{IsShown}
+use Rattle.pi_prog_clauses.specs.Stretch.{Stretch}
+use Rattle.pi_prog_clauses.specs.Verdict.{has_bad_form, has_too_many_names, different}
+use Rattle.pi_prog_clauses.specs.declared.clause.FormedClause.{FormedClause}
 use Rattle.pi_prog.specs.declared.reading.declaration.DeclarationWord.{DeclarationWord}
 use Rattle.pi_prog.specs.declared.reading.declaration.DeclarationWord.TheVariants as word
 use Rattle.pi_prog.specs.declared.reading.declaration.PartOpening.{PartOpening}
@@ -32,7 +32,7 @@ use Rattle.pi_prog.specs.declared.reading.declaration.modes.FoundModes.{FoundMod
 use Rattle.pi_prog.specs.declared.reading.declaration.modes.FoundModes.TheVariants as found
 use Rattle.pi_prog.specs.declared.reading.MarkedClause.{MarkedClause}
 use Rattle.pi_prog.specs.declared.reading.Marks.{Marks}
-use Rattle.pi_clauses.specs.declared.parts.PartReading.{PartReading}
+use Rattle.pi_prog_clauses.specs.declared.parts.PartReading.{PartReading}
 use Rattle.pi_prog.specs.declared.reading.shape.Arrow.{Arrow}
 use Rattle.pi_prog.specs.declared.reading.shape.Arrow.TheVariants as arrow
 use Rattle.pi_prog.specs.declared.reading.shape.ReadShape.{ReadShape}

@@ -4,9 +4,9 @@ use Rattle.std.specs.List.{list_any}
 use Rattle.pi_lex.specs.Kinds.{kinds}
 use Rattle.pi_syntax.specs.ProgramTree.{ProgramTree}
 use Rattle.pi_syntax.specs.Tokens.{Located, HasTokens}
-use Rattle.pi_clauses.specs.Reading.{Reading, ReadAll}
-use Rattle.pi_clauses.specs.Stretch.{stretches}
-use Rattle.pi_clauses.specs.Verdict.{JudgedPart, refused, libraries, one_clause, judged, parts_of}
+use Rattle.pi_prog_clauses.specs.Reading.{Reading, ReadAll}
+use Rattle.pi_prog_clauses.specs.Stretch.{stretches}
+use Rattle.pi_prog_clauses.specs.Verdict.{JudgedPart, refused, libraries, one_clause, judged, parts_of}
 
 -- a part that is refused whatever the others are
 abbrev pub is_refused : JudgedPart → Bool

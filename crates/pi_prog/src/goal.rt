@@ -6,16 +6,18 @@ ghost use Rattle.pi_syntax.specs.Crowding.{IsRead};
 ghost use Rattle.pi_syntax.specs.ExpTree.{exp_tree};
 ghost use Rattle.pi_syntax.specs.ProgramTree.{ProgramTree, source_tree, goal_source};
 ghost use Rattle.pi_syntax.specs.Tokens.{Token};
-ghost use Rattle.pi_clauses.specs.Faults.{IsGoalFault, IsGoalTold, AnswersGoal};
-ghost use Rattle.pi_clauses.specs.GoalVerdict.{GoalVerdict, a_goal, goal_verdict, HasGoalVerdict};
-ghost use Rattle.pi_clauses.specs.Reading.{variable_names};
-ghost use Rattle.pi_clauses.specs.Stretch.{without_end};
+ghost use Rattle.pi_prog_clauses.specs.Faults.{IsGoalFault, IsGoalTold, AnswersGoal};
+ghost use Rattle.pi_prog_clauses.specs.GoalVerdict.{GoalVerdict, a_goal, goal_verdict, HasGoalVerdict};
+ghost use Rattle.pi_prog_clauses.specs.Reading.{variable_names};
+ghost use Rattle.pi_prog_clauses.specs.Stretch.{without_end};
 
 use crate::reading::stretch::is_end;
 use crate::reading::variables::has_too_many_names;
-use pi_clauses::{ProgFault, UnknownCall, first_unknown_of_goal, goal_has_bad_nodes, unknown_name};
 use pi_expr::{ExpFault, read_exp};
 use pi_lex::Tokens;
+use pi_prog_clauses::{
+    ProgFault, UnknownCall, first_unknown_of_goal, goal_has_bad_nodes, unknown_name,
+};
 use pi_syntax::{Exp, Goal, Program};
 use std::alloc::Global;
 
@@ -92,8 +94,10 @@ fn judge_goal(
     body: &Exp,
     program: &Program,
 ) -> Result<(), ProgFault>
-    ensures ok { OnOk result (goal_verdict (source_tree program.now) (exp_tree body.now) (variable_names (without_end (kinds tokens.now))) ≡ a_goal (exp_tree body.now)) }
-    ensures fault { IfErr result (IsGoalTold (goal_verdict (source_tree program.now) (exp_tree body.now) (variable_names (without_end (kinds tokens.now))))) }
+    ensures ok { OnOk result (goal_verdict (source_tree program.now) (exp_tree body.now)
+        (variable_names (without_end (kinds tokens.now))) ≡ a_goal (exp_tree body.now)) }
+    ensures fault { IfErr result (IsGoalTold (goal_verdict (source_tree program.now) (exp_tree body.now)
+        (variable_names (without_end (kinds tokens.now))))) }
 {
     let is_bad = goal_has_bad_nodes(alloc, body)?;
     if is_bad {

@@ -10,7 +10,7 @@ mod reading;
 
 pub use goal::read_goal;
 pub use laws::one_verdict;
-pub use pi_clauses::ProgFault;
+pub use pi_prog_clauses::ProgFault;
 pub use prelude::read_prelude;
 pub use prelude_laws::prelude_is_its_text;
 pub use program::read_program;

@@ -2,13 +2,13 @@
 ghost use Rattle.std.specs.Prelude.{◌≡◌, IfOk};
 ghost use Rattle.pi_lex.specs.declared.fault.LexFault.TheVariants.{Memory};
 ghost use Rattle.pi_syntax.specs.Prelude.{prelude_text};
-ghost use Rattle.pi_meaning.specs.Prelude.{prelude};
+ghost use Rattle.pi_meaning.specs.OverNames.Prelude.{prelude};
 ghost use Rattle.pi_syntax.specs.ProgramTree.{source_tree};
 ghost use Rattle.pi_syntax.specs.Tokens.{HasTokens};
 
 use crate::reading::read_parts;
-use pi_clauses::program_of;
 use pi_lex::{LexFault, Tokens, tokens};
+use pi_prog_clauses::program_of;
 use pi_syntax::{Program, prelude};
 use std::alloc::{AllocError, Global};
 

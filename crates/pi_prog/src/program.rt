@@ -2,12 +2,12 @@
 ghost use Rattle.std.specs.Prelude.{IfOk, IfErr};
 ghost use Rattle.pi_lex.specs.Kinds.{kinds};
 ghost use Rattle.pi_syntax.specs.ProgramTree.{source_tree};
-ghost use Rattle.pi_clauses.specs.Faults.{IsProgramFault, AnswersProgram};
-ghost use Rattle.pi_clauses.specs.Verdict.{Verdict, a_program, HasVerdict};
+ghost use Rattle.pi_prog_clauses.specs.Faults.{IsProgramFault, AnswersProgram};
+ghost use Rattle.pi_prog_clauses.specs.Verdict.{Verdict, a_program, HasVerdict};
 
 use crate::reading::read_parts;
-use pi_clauses::{ProgFault, judge_parts, program_of};
 use pi_lex::Tokens;
+use pi_prog_clauses::{ProgFault, judge_parts, program_of};
 use pi_syntax::Program;
 use std::alloc::Global;
 

@@ -4,14 +4,14 @@ ghost use Rattle.pi_lex.specs.Kinds.{kinds};
 ghost use Rattle.pi_expr.specs.Faults.{stretch};
 ghost use Rattle.pi_syntax.specs.Crowding.{IsCrowded};
 ghost use Rattle.pi_syntax.specs.Tokens.{Token};
-ghost use Rattle.pi_clauses.specs.Reading as spec;
-ghost use Rattle.pi_clauses.specs.Declaration.{Opening, Opens, importing};
+ghost use Rattle.pi_prog_clauses.specs.Reading as spec;
+ghost use Rattle.pi_prog_clauses.specs.Declaration.{Opening, Opens, importing};
 ghost use Rattle.pi_prog.specs.Parts.{SoFar};
-ghost use Rattle.pi_clauses.specs.Formed.{IsFormed};
+ghost use Rattle.pi_prog_clauses.specs.Formed.{IsFormed};
 ghost use Rattle.pi_prog.specs.Pieces.{ShowsPart, IsFormedOf, IsMarkedOf, IsShapeFault, AreMarks, IsClauseOf};
-ghost use Rattle.pi_clauses.specs.Shape.{Shape};
-ghost use Rattle.pi_clauses.specs.Shown.{AreShown};
-ghost use Rattle.pi_clauses.specs.Stretch as stretches;
+ghost use Rattle.pi_prog_clauses.specs.Shape.{Shape};
+ghost use Rattle.pi_prog_clauses.specs.Shown.{AreShown};
+ghost use Rattle.pi_prog_clauses.specs.Stretch as stretches;
 
 mod declaration;
 mod shape;
@@ -22,9 +22,11 @@ use crate::reading::declaration::{PartOpening, opening};
 use crate::reading::shape::{ReadShape, read_shape};
 use crate::reading::stretch::is_end;
 use crate::reading::variables::has_too_many_names;
-use pi_clauses::{FormedClause, PartReading, WrittenPart, bare_clause, has_bad_form, ruled_clause};
 use pi_expr::{ExpFault, is_crowded};
 use pi_lex::Tokens;
+use pi_prog_clauses::{
+    FormedClause, PartReading, WrittenPart, bare_clause, has_bad_form, ruled_clause,
+};
 use pi_syntax::{Clause, ModeLists, Names};
 use std::alloc::{AllocError, Global};
 
@@ -46,7 +48,8 @@ pub(crate) struct MarkedClause {
 /// that the language builds in. A User's Guide to Picat, 'Predicates and Functions'; the limits are own. `Err` is want of
 /// memory.
 pub fn read_parts(alloc: Global, tokens: &Tokens) -> Result<Vec<PartReading>, AllocError>
-    ensures { IfOk result (λ parts. (rs : List spec.Reading) × spec.ReadAll (stretches.stretches (kinds tokens.now)) rs × AreShown parts.items rs) }
+    ensures { IfOk result (λ parts. (rs : List spec.Reading) × spec.ReadAll (stretches.stretches (kinds tokens.now)) rs ×
+        AreShown parts.items rs) }
 {
     let mut parts = Vec::new(alloc);
     let mut from = 0;
@@ -74,7 +77,8 @@ fn read_ended(
     requires ordered { from ≤ at }
     requires within { at < length tokens.now }
     requires fits { at < usize.MAX }
-    ensures { IfOk result (λ next. SoFar (kinds tokens.now) parts.old.items from at → SoFar (kinds tokens.now) parts.new.items next (at + 1)) }
+    ensures { IfOk result (λ next. SoFar (kinds tokens.now) parts.old.items from at →
+        SoFar (kinds tokens.now) parts.new.items next (at + 1)) }
 {
     let token = tokens.kind(at);
     if !is_end(token) {
@@ -129,7 +133,8 @@ fn read_behind(
     requires ordered { start ≤ to }
     requires within { to ≤ length tokens.now }
     requires uncrowded { ¬ IsCrowded (stretch (kinds tokens.now) start to) }
-    ensures { IfOk result (λ p. (o : Opening) → IsClauseOf (stretch (kinds tokens.now) from to) o modes (stretch (kinds tokens.now) start to) → ShowsPart (stretches.stretch (stretch (kinds tokens.now) from to) ended) p) }
+    ensures { IfOk result (λ p. (o : Opening) → IsClauseOf (stretch (kinds tokens.now) from to) o modes
+        (stretch (kinds tokens.now) start to) → ShowsPart (stretches.stretch (stretch (kinds tokens.now) from to) ended) p) }
 {
     if !ended {
         return Ok(PartReading::NoClause);
@@ -228,7 +233,8 @@ fn marks_of(
 
 /// The part with these mode lists before its clause.
 fn with_modes(modes: Option<ModeLists>, marked: MarkedClause) -> WrittenPart
-    ensures { (part ts : List Token) (o : Opening) → IsClauseOf part o modes ts → IsMarkedOf part ts marked → ShowsPart (stretches.stretch part true) (PartReading.Written result) }
+    ensures { (part ts : List Token) (o : Opening) → IsClauseOf part o modes ts → IsMarkedOf part ts marked →
+        ShowsPart (stretches.stretch part true) (PartReading.Written result) }
 {
     WrittenPart {
         modes,

@@ -8,11 +8,11 @@ use Rattle.std.proofs.lemmas.List.{take_more, take_all}
 use Rattle.std.proofs.lemmas.Option.{get_or_from_slice_get}
 use Rattle.pi_constraints.specs.declared.domain.Span.{Span}
 use Rattle.pi_constraints.specs.Domain.{IsDomain}
-use Rattle.pi_places.proofs.SharedLemmas.{AreValuesOf, one_more}
-use Rattle.pi_filters.specs.Rules.{ShareAValue}
-use Rattle.pi_places.specs.Reads.{HasValueBetween}
-use Rattle.pi_places.proofs.RoundLemmas.{le_test, test_le}
-use Rattle.pi_places.proofs.AskLemmas.{SharedIn, shared_next, shared_turned, shared_here, between_found}
+use Rattle.pi_prop_places.proofs.SharedLemmas.{AreValuesOf, one_more}
+use Rattle.pi_prop_spec.specs.Rules.{ShareAValue}
+use Rattle.pi_prop_places.specs.Reads.{HasValueBetween}
+use Rattle.pi_prop_places.proofs.RoundLemmas.{le_test, test_le}
+use Rattle.pi_prop_places.proofs.AskLemmas.{SharedIn, shared_next, shared_turned, shared_here, between_found}
 
 -- a span that is read is the one at its number
 at-number : (ss : List Span) (k : ℕ) (s e : Span) → slice_get ss k ≡ Some s → get_or ss k e ≡ s

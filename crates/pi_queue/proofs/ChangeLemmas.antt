@@ -5,7 +5,7 @@ use Rattle.std.proofs.lemmas.List.{take_more, take_all, get_or-map, get_or_defau
 use Rattle.pi_constraints.specs.Constraint.{AreItems, IsItem}
 use Rattle.pi_constraints.specs.declared.constraint.Item.{Item}
 use Rattle.pi_constraints.specs.declared.domain.Span.{Span}
-use Rattle.pi_filters.specs.Places.{domain_at}
+use Rattle.pi_prop_spec.specs.Places.{domain_at}
 use Rattle.pi_queue.specs.Changes.{AreTold}
 
 pub item-at : (xs : List Item) (k : ℕ) (x : Item) → k < length xs → AreItems xs → IsItem (get_or xs k x)

@@ -6,11 +6,11 @@ use Rattle.pi_constraints.specs.Constraint.{AreItems, IsItem}
 use Rattle.pi_constraints.specs.declared.constraint.Constraint.{Constraint}
 use Rattle.pi_constraints.specs.declared.constraint.Item.{Item}
 use Rattle.pi_constraints.specs.declared.domain.Span.{Span}
-use Rattle.pi_filters.specs.Places.{places_of, domain_at}
+use Rattle.pi_prop_spec.specs.Places.{places_of, domain_at}
 use Rattle.pi_constraints.specs.State.{State, bindings}
 use Rattle.pi_constraints.specs.Value.{IsAcyclic}
 use Rattle.pi_settling.specs.Roots.{root_item, given, domain_or_all}
-use Rattle.pi_prop.specs.Left.{AreLeft}
+use Rattle.pi_prop_filters.specs.Left.{AreLeft}
 use Rattle.pi_queue.specs.Standing.{standing_at}
 use Rattle.pi_queue.specs.Changes.{AreTold}
 use Rattle.pi_settling.proofs.SizeLemmas.{in-front, behind}

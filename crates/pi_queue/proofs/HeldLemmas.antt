@@ -11,9 +11,9 @@ use Rattle.pi_constraints.specs.declared.domain.Span.{Span}
 use Rattle.pi_constraints.specs.declared.domain.TheConstants.{MAX_VALUE}
 use Rattle.pi_constraints.specs.Domain.{AscendFrom, IsDomain, IsWithinBounds, has_value}
 use Rattle.pi_constraints.proofs.ExtremeLemmas.{AscendFrom-ends_rise}
-use Rattle.pi_filters.specs.Ends.{least_of, greatest_of}
-use Rattle.pi_filters.proofs.EndLemmas.{least-below, greatest-above}
-use Rattle.pi_places.specs.Reads.{HasValueBetween}
+use Rattle.pi_prop_spec.specs.Ends.{least_of, greatest_of}
+use Rattle.pi_prop_spec.proofs.EndLemmas.{least-below, greatest-above}
+use Rattle.pi_prop_places.specs.Reads.{HasValueBetween}
 use Rattle.pi_constraints.specs.State.{State}
 use Rattle.pi_queue.specs.Standing.{IsStand, span_of, standing}
 use Rattle.pi_queue.specs.declared.stand.Stand.{Stand}

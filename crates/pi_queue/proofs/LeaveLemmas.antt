@@ -8,8 +8,8 @@ use Rattle.pi_constraints.specs.declared.constraint.Constraint.{Constraint}
 use Rattle.pi_constraints.specs.declared.constraint.Item.{Item}
 use Rattle.pi_constraints.specs.declared.domain.Span.{Span}
 use Rattle.pi_constraints.specs.Domain.{IsDomain, has_value, size_of}
-use Rattle.pi_filters.specs.Places.{places_of, domain_at}
-use Rattle.pi_filters.specs.Filter.{Leaves}
+use Rattle.pi_prop_spec.specs.Places.{places_of, domain_at}
+use Rattle.pi_prop_spec.specs.Filter.{Leaves}
 use Rattle.pi_constraints.specs.State.{State, Variable, free, within, bound, binding, next, domain_in, domain_of, with_variable, IsState}
 use Rattle.pi_constraints.proofs.StateLemmas.{variable, domain_good, same_or_not, changed_next, changed_here, changed_elsewhere}
 use Rattle.pi_settling.specs.Roots.{root_item, only, domain_or_all, given}

@@ -6,8 +6,8 @@ use Rattle.pi_constraints.specs.declared.constraint.Constraint.{Constraint}
 use Rattle.pi_constraints.specs.declared.constraint.Item.{Item}
 use Rattle.pi_constraints.specs.declared.domain.Span.{Span}
 use Rattle.pi_constraints.specs.Domain.{has_value}
-use Rattle.pi_filters.specs.Places.{places_of, domain_at}
-use Rattle.pi_filters.specs.Filter.{Leaves}
+use Rattle.pi_prop_spec.specs.Places.{places_of, domain_at}
+use Rattle.pi_prop_spec.specs.Filter.{Leaves}
 use Rattle.pi_constraints.specs.State.{State, IsState}
 use Rattle.pi_settling.specs.Roots.{root_item, given}
 use Rattle.pi_settling.proofs.PlaceLemmas.{count-places}

@@ -8,7 +8,7 @@ use Rattle.pi_terms.specs.Places.{held}
 use Rattle.pi_constraints.specs.declared.constraint.Constraint.{Constraint}
 use Rattle.pi_constraints.specs.declared.constraint.Item.{Item}
 use Rattle.pi_constraints.specs.Constraint.{HoldsVariable, HoldVariable, SumHasVariable, SpeaksOf}
-use Rattle.pi_filters.specs.Places.{places_of, sum_places}
+use Rattle.pi_prop_spec.specs.Places.{places_of, sum_places}
 use Rattle.pi_constraints.specs.Value.{Bindings, IsAcyclic, value}
 use Rattle.pi_constraints.specs.State.{State, Variable, binding, bindings, next, followed_for, followed, LeadsTo, is_it, through}
 use Rattle.pi_constraints.specs.Store.{IsPostedOn}

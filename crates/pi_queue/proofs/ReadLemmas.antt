@@ -5,7 +5,7 @@ use Rattle.std.proofs.lemmas.List.{take_all, take_more}
 use Rattle.std.proofs.lemmas.List.Elements.{Contains-get_or}
 use Rattle.pi_constraints.specs.declared.constraint.Constraint.{Constraint}
 use Rattle.pi_constraints.specs.declared.constraint.Item.{Item}
-use Rattle.pi_filters.specs.Places.{places_of}
+use Rattle.pi_prop_spec.specs.Places.{places_of}
 use Rattle.pi_constraints.specs.State.{State}
 use Rattle.pi_settling.specs.Roots.{root_item, given}
 use Rattle.pi_settling.specs.SettlingLaws.{MaySettle}

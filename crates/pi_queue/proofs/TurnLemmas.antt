@@ -6,7 +6,7 @@ use Rattle.pi_terms.specs.Places.{held}
 use Rattle.pi_constraints.specs.declared.constraint.Constraint.{Constraint}
 use Rattle.pi_constraints.specs.declared.constraint.Item.{Item}
 use Rattle.pi_constraints.specs.declared.domain.Span.{Span}
-use Rattle.pi_filters.specs.Places.{places_of}
+use Rattle.pi_prop_spec.specs.Places.{places_of}
 use Rattle.pi_constraints.specs.State.{State, bindings, next, domain_in, domain_of, IsState}
 use Rattle.pi_constraints.proofs.StateLemmas.{variable, domain_unbound}
 use Rattle.pi_settling.specs.Roots.{root_item, given}

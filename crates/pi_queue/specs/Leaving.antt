@@ -5,14 +5,14 @@ use Rattle.pi_constraints.specs.declared.constraint.Constraint.{Constraint}
 use Rattle.pi_constraints.specs.declared.constraint.Item.{Item}
 use Rattle.pi_constraints.specs.declared.domain.Span.{Span}
 use Rattle.pi_constraints.specs.Domain.{IsDomain, has_value, size_of}
-use Rattle.pi_filters.specs.Places.{places_of}
-use Rattle.pi_filters.specs.Filter.{Leaves}
+use Rattle.pi_prop_spec.specs.Places.{places_of}
+use Rattle.pi_prop_spec.specs.Filter.{Leaves}
 use Rattle.pi_constraints.specs.State.{State, IsState, free, domain_of, with_domain, with_binding}
 use Rattle.pi_settling.specs.Roots.{root_item, given}
 use Rattle.pi_settling.specs.SettlingLaws.{MaySettle}
 use Rattle.pi_settling.specs.Narrowed.{IsNarrowed}
 use Rattle.pi_settling.specs.Run.{given_at, ComesTo, LosesValue, KeptBefore, Fails}
-use Rattle.pi_prop.specs.Left.{AreLeft}
+use Rattle.pi_prop_filters.specs.Left.{AreLeft}
 
 -- no other values
 abbrev pub IsWithin : List Span → List Span → Type 0

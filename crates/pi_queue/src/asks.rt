@@ -2,8 +2,8 @@
 ghost use Rattle.std.specs.Prelude.{◌≡◌, ◌↔◌, true, false, IsTrue, ℤ, ◌≤ℤ◌, ◌<ℤ◌, int_lt};
 ghost use Rattle.std.specs.List.Sorted.{IsPartitionPoint};
 ghost use Rattle.pi_constraints.specs.Domain.{has_value};
-ghost use Rattle.pi_filters.specs.Rules.{ShareAValue};
-ghost use Rattle.pi_places.specs.Reads.{HasValueBetween};
+ghost use Rattle.pi_prop_spec.specs.Rules.{ShareAValue};
+ghost use Rattle.pi_prop_places.specs.Reads.{HasValueBetween};
 
 use crate::held::Held;
 use pi_constraints::{Span, StoredDomains};

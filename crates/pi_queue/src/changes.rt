@@ -20,7 +20,8 @@ pub fn changed<S: StoredDomains>(
 ) -> Result<Vec<Option<Domain>>, AllocError>
     requires { length items.now ≡ length places.now.held.items }
     ensures count { IfOk result (λ made. length made.items ≡ length items.now) }
-    ensures told { IfOk result (λ made. AreItems items.now → AreTold (map (standing_at (S.seen store.now).now.state) items.now) made.items places.now.held.items) }
+    ensures told { IfOk result (λ made. AreItems items.now →
+        AreTold (map (standing_at (S.seen store.now).now.state) items.now) made.items places.now.held.items) }
 {
     let told = changes(alloc, store, items, places.held.as_slice())?;
     Ok(told)
@@ -35,7 +36,8 @@ fn changes<S: StoredDomains>(
 ) -> Result<Vec<Option<Domain>>, AllocError>
     requires { length items.now ≡ length held.now }
     ensures count { IfOk result (λ made. length made.items ≡ length items.now) }
-    ensures told { IfOk result (λ made. AreItems items.now → AreTold (map (standing_at (S.seen store.now).now.state) items.now) made.items held.now) }
+    ensures told { IfOk result (λ made. AreItems items.now →
+        AreTold (map (standing_at (S.seen store.now).now.state) items.now) made.items held.now) }
 {
     let mut told = Vec::new(alloc);
     for k in 0..items.len() {

@@ -2,12 +2,12 @@
 ghost use Rattle.std.specs.Prelude.{◌≡◌, ◌↔◌, ◌<◌, ◌++◌, [], IsTrue, IfOk, Some, length, slice_get};
 ghost use Rattle.pi_constraints.specs.Constraint.{IsItem};
 ghost use Rattle.pi_constraints.specs.Domain.{IsDomain, IsWithinBounds};
-ghost use Rattle.pi_filters.specs.Ends.{least_of, greatest_of};
+ghost use Rattle.pi_prop_spec.specs.Ends.{least_of, greatest_of};
 ghost use Rattle.pi_queue.specs.Standing.{standing_at};
 
 use crate::stand::{Stand, stand_of, standing_count, standing_span};
 use pi_constraints::{Domain, Item, Span, StoredDomains};
-use pi_places::Narrowed;
+use pi_prop_places::Narrowed;
 use std::alloc::{AllocError, Global};
 use std::marker::Model;
 use std::mem;

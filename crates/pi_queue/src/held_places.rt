@@ -6,7 +6,7 @@ ghost use Rattle.pi_queue.specs.Standing.{standing_at};
 use crate::asks::{has_value_between, share};
 use crate::held::Held;
 use pi_constraints::{Domain, Item, Span, StoredDomains};
-use pi_places::Places;
+use pi_prop_places::Places;
 use std::alloc::{AllocError, Global};
 
 /// The places of a constraint. Their values stand in a store, and are copied where the first of them goes. (By the store, named
@@ -21,7 +21,8 @@ impl<'a, S: StoredDomains> HeldPlaces<'a, S> {
     /// The places of items that are followed.
     pub fn of(alloc: Global, store: &'a S, items: &[Item]) -> Result<HeldPlaces<'a, S>, AllocError>
         ensures count { IfOk result (λ made. length made.held.items ≡ length items.now) }
-        ensures values { IfOk result (λ made. AreItems items.now → made.held.items ≡ map (standing_at (S.seen store.entry.now).now.state) items.now) }
+        ensures values { IfOk result (λ made. AreItems items.now →
+            made.held.items ≡ map (standing_at (S.seen store.entry.now).now.state) items.now) }
     {
         let mut held = Vec::new(alloc);
         for k in 0..items.len() {

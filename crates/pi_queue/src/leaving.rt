@@ -25,8 +25,12 @@ pub(crate) fn leave_all<S: StateStore>(
 ) -> Result<bool, AllocError>
     requires { length told.now ≡ length roots.now }
     ensures keeps { Keeps (S.seen s.old) (S.seen s.new) }
-    ensures narrower { (c : Constraint) (before left : List (List Span)) → AreTold before told.now left → MayLeave (S.seen s.old).now.state c roots.now before left lost.old.items → IsNarrower (S.seen s.old).now.state (S.seen s.new).now.state }
-    ensures leaves { IfOk result (λ some. (c : Constraint) (before left : List (List Span)) → AreTold before told.now left → MayLeave (S.seen s.old).now.state c roots.now before left lost.old.items → LeavesAll (S.seen s.old).now.state c some (S.seen s.new).now.state lost.new.items) }
+    ensures narrower { (c : Constraint) (before left : List (List Span)) → AreTold before told.now left →
+        MayLeave (S.seen s.old).now.state c roots.now before left lost.old.items →
+        IsNarrower (S.seen s.old).now.state (S.seen s.new).now.state }
+    ensures leaves { IfOk result (λ some. (c : Constraint) (before left : List (List Span)) → AreTold before told.now left →
+        MayLeave (S.seen s.old).now.state c roots.now before left lost.old.items →
+        LeavesAll (S.seen s.old).now.state c some (S.seen s.new).now.state lost.new.items) }
 {
     for k in 0..roots.len() {
         let some = leave(alloc, s, roots[k], &told[k], lost)?;
@@ -46,7 +50,10 @@ fn leave<S: StateStore>(
     lost: &mut Vec<u64>,
 ) -> Result<bool, AllocError>
     ensures keeps { Keeps (S.seen s.old) (S.seen s.new) }
-    ensures takes { IfOk result (λ some. (before left : List Span) → left ≡ unwrap_or told.now before → IsState (S.seen s.old).now.state → MayTake (S.seen s.old).now.state item before left → Takes left (S.seen s.old).now.state lost.old.items (root_item (S.seen s.old).now.state item) some (S.seen s.new).now.state lost.new.items) }
+    ensures takes { IfOk result (λ some. (before left : List Span) → left ≡ unwrap_or told.now before →
+        IsState (S.seen s.old).now.state → MayTake (S.seen s.old).now.state item before left →
+        Takes left (S.seen s.old).now.state lost.old.items (root_item (S.seen s.old).now.state item) some
+        (S.seen s.new).now.state lost.new.items) }
     ensures err { OnErr result ((S.seen s.new).now.state ≡ (S.seen s.old).now.state) }
 {
     match told {
@@ -67,7 +74,9 @@ fn leave_item<S: StateStore>(
     lost: &mut Vec<u64>,
 ) -> Result<bool, AllocError>
     ensures keeps { Keeps (S.seen s.old) (S.seen s.new) }
-    ensures takes { IfOk result (λ some. IsState (S.seen s.old).now.state → IsLater (S.seen s.old).now.state item → Takes left.now (S.seen s.old).now.state lost.old.items (root_item (S.seen s.old).now.state item) some (S.seen s.new).now.state lost.new.items) }
+    ensures takes { IfOk result (λ some. IsState (S.seen s.old).now.state → IsLater (S.seen s.old).now.state item →
+        Takes left.now (S.seen s.old).now.state lost.old.items (root_item (S.seen s.old).now.state item) some
+        (S.seen s.new).now.state lost.new.items) }
     ensures err { OnErr result ((S.seen s.new).now.state ≡ (S.seen s.old).now.state) }
 {
     match item {
@@ -99,7 +108,9 @@ fn leave_variable<S: StateStore>(
     lost: &mut Vec<u64>,
 ) -> Result<bool, AllocError>
     ensures keeps { Keeps (S.seen s.old) (S.seen s.new) }
-    ensures takes { IfOk result (λ some. IsState (S.seen s.old).now.state → IsLater (S.seen s.old).now.state (Item.Var v) → Takes left.now (S.seen s.old).now.state lost.old.items (root_item (S.seen s.old).now.state (Item.Var v)) some (S.seen s.new).now.state lost.new.items) }
+    ensures takes { IfOk result (λ some. IsState (S.seen s.old).now.state → IsLater (S.seen s.old).now.state (Item.Var v) →
+        Takes left.now (S.seen s.old).now.state lost.old.items (root_item (S.seen s.old).now.state (Item.Var v)) some
+        (S.seen s.new).now.state lost.new.items) }
     ensures err { OnErr result ((S.seen s.new).now.state ≡ (S.seen s.old).now.state) }
 {
     let at = s.var_ref(v);
@@ -123,7 +134,9 @@ fn leave_unbound<S: StateStore>(
     lost: &mut Vec<u64>,
 ) -> Result<bool, AllocError>
     ensures keeps { Keeps (S.seen s.old) (S.seen s.new) }
-    ensures takes { IfOk result (λ some. (d : List Span) → IsState (S.seen s.old).now.state → domain_of (S.seen s.old).now.state v ≡ Some d → Takes left.now (S.seen s.old).now.state lost.old.items (Item.Var v) some (S.seen s.new).now.state lost.new.items) }
+    ensures takes { IfOk result (λ some. (d : List Span) → IsState (S.seen s.old).now.state →
+        domain_of (S.seen s.old).now.state v ≡ Some d →
+        Takes left.now (S.seen s.old).now.state lost.old.items (Item.Var v) some (S.seen s.new).now.state lost.new.items) }
     ensures err { OnErr result ((S.seen s.new).now.state ≡ (S.seen s.old).now.state) }
 {
     let at = s.var_ref(v);
@@ -145,7 +158,9 @@ fn keep<S: StateStore>(
     lost: &mut Vec<u64>,
 ) -> Result<bool, AllocError>
     ensures keeps { Keeps (S.seen s.old) (S.seen s.new) }
-    ensures takes { IfOk result (λ some. IsState (S.seen s.old).now.state → domain_of (S.seen s.old).now.state v ≡ Some had.now → IsWithin kept.now had.now → Takes kept.now (S.seen s.old).now.state lost.old.items (Item.Var v) some (S.seen s.new).now.state lost.new.items) }
+    ensures takes { IfOk result (λ some. IsState (S.seen s.old).now.state → domain_of (S.seen s.old).now.state v ≡ Some had.now →
+        IsWithin kept.now had.now → Takes kept.now (S.seen s.old).now.state lost.old.items (Item.Var v) some
+        (S.seen s.new).now.state lost.new.items) }
     ensures err { OnErr result ((S.seen s.new).now.state ≡ (S.seen s.old).now.state) }
 {
     if have_one_size(had, kept) {
@@ -162,8 +177,11 @@ fn keep<S: StateStore>(
 /// Binds a variable to the one value that is kept, or gives it those that are.
 fn write<S: StateStore>(s: &mut S, v: u64, kept: &Domain, least: i64) -> Result<(), AllocError>
     ensures keeps { Keeps (S.seen s.old) (S.seen s.new) }
-    ensures one { OnOk result ((d : List Span) → IsState (S.seen s.old).now.state → domain_of (S.seen s.old).now.state v ≡ Some d → size_of kept.now ≡ 1 → (S.seen s.new).now.state ≡ with_binding (S.seen s.old).now.state v (int least)) }
-    ensures more { OnOk result ((d : List Span) → IsState (S.seen s.old).now.state → domain_of (S.seen s.old).now.state v ≡ Some d → 2 ≤ size_of kept.now → (S.seen s.new).now.state ≡ with_domain (S.seen s.old).now.state v kept.now) }
+    ensures one { OnOk result ((d : List Span) → IsState (S.seen s.old).now.state → domain_of (S.seen s.old).now.state v ≡ Some d →
+        size_of kept.now ≡ 1 → (S.seen s.new).now.state ≡ with_binding (S.seen s.old).now.state v (int least)) }
+    ensures more { OnOk result ((d : List Span) → IsState (S.seen s.old).now.state →
+        domain_of (S.seen s.old).now.state v ≡ Some d → 2 ≤ size_of kept.now →
+        (S.seen s.new).now.state ≡ with_domain (S.seen s.old).now.state v kept.now) }
     ensures err { OnErr result ((S.seen s.new).now.state ≡ (S.seen s.old).now.state) }
 {
     if size(kept) == 1 {
@@ -178,7 +196,8 @@ fn write<S: StateStore>(s: &mut S, v: u64, kept: &Domain, least: i64) -> Result<
 /// Binds a variable to an integer.
 fn fix<S: StateStore>(s: &mut S, v: u64, n: i64) -> Result<(), AllocError>
     ensures keeps { Keeps (S.seen s.old) (S.seen s.new) }
-    ensures ok { OnOk result ((d : List Span) → IsState (S.seen s.old).now.state → domain_of (S.seen s.old).now.state v ≡ Some d → (S.seen s.new).now.state ≡ with_binding (S.seen s.old).now.state v (int n)) }
+    ensures ok { OnOk result ((d : List Span) → IsState (S.seen s.old).now.state → domain_of (S.seen s.old).now.state v ≡ Some d →
+        (S.seen s.new).now.state ≡ with_binding (S.seen s.old).now.state v (int n)) }
     ensures err { OnErr result ((S.seen s.new).now.state ≡ (S.seen s.old).now.state) }
 {
     let value = s.put_int(i128::from(n))?;

@@ -1,6 +1,6 @@
 //! The places of a constraint, as a list.
 ghost use Rattle.std.specs.Prelude.{◌≡◌, ◌∷◌, ◌++◌, [], IfOk};
-ghost use Rattle.pi_filters.specs.Places.{places_of, sum_places};
+ghost use Rattle.pi_prop_spec.specs.Places.{places_of, sum_places};
 
 use pi_constraints::{Constraint, Item, LinTerm};
 use std::alloc::{AllocError, Global};

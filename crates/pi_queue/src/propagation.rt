@@ -28,9 +28,13 @@ pub fn propagate_from<S: StoredDomains>(
     limit: u64,
 ) -> Result<bool, PropStop>
     ensures keeps { Keeps (S.seen s.old) (S.seen s.new) }
-    ensures ends { MayPropagate (S.seen s.old).now.state due.now → Ends (S.seen s.old).now.state due.now limit work.old work.new (S.seen s.new).now.state result }
-    ensures domains { IfOk result (λ some. MayPropagate (S.seen s.old).now.state due.now → MatchBool some (IsStable (S.seen s.old).now.state (S.seen s.new).now.state) (IsEmptied (S.seen s.old).now.state)) }
-    ensures bounded { MayPropagate (S.seen s.old).now.state due.now → work.new.runs ≤ work.old.runs + (length due.now + sum_by (count_lost (S.seen s.old).now.state (S.seen s.new).now.state) (S.seen s.old).now.state.constraints) }
+    ensures ends { MayPropagate (S.seen s.old).now.state due.now →
+        Ends (S.seen s.old).now.state due.now limit work.old work.new (S.seen s.new).now.state result }
+    ensures domains { IfOk result (λ some. MayPropagate (S.seen s.old).now.state due.now →
+        MatchBool some (IsStable (S.seen s.old).now.state (S.seen s.new).now.state) (IsEmptied (S.seen s.old).now.state)) }
+    ensures bounded { MayPropagate (S.seen s.old).now.state due.now →
+        work.new.runs ≤ work.old.runs + (length due.now + sum_by (count_lost (S.seen s.old).now.state (S.seen s.new).now.state)
+        (S.seen s.old).now.state.constraints) }
     ensures within { KeepsWithin limit work.old work.new }
 {
     let mut waiting = Due::new(alloc);
@@ -46,9 +50,14 @@ pub fn propagate<S: StoredDomains>(
     limit: u64,
 ) -> Result<bool, PropStop>
     ensures keeps { Keeps (S.seen s.old) (S.seen s.new) }
-    ensures ends { IsState (S.seen s.old).now.state → MaySettle (S.seen s.old).now.state → Ends (S.seen s.old).now.state (numbers_below (length (S.seen s.old).now.state.constraints)) limit work.old work.new (S.seen s.new).now.state result }
-    ensures domains { IfOk result (λ some. IsState (S.seen s.old).now.state → MaySettle (S.seen s.old).now.state → MatchBool some (IsStable (S.seen s.old).now.state (S.seen s.new).now.state) (IsEmptied (S.seen s.old).now.state)) }
-    ensures bounded { IsState (S.seen s.old).now.state → MaySettle (S.seen s.old).now.state → work.new.runs ≤ work.old.runs + (length (S.seen s.old).now.state.constraints + sum_by (count_lost (S.seen s.old).now.state (S.seen s.new).now.state) (S.seen s.old).now.state.constraints) }
+    ensures ends { IsState (S.seen s.old).now.state → MaySettle (S.seen s.old).now.state →
+        Ends (S.seen s.old).now.state (numbers_below (length (S.seen s.old).now.state.constraints)) limit work.old work.new
+        (S.seen s.new).now.state result }
+    ensures domains { IfOk result (λ some. IsState (S.seen s.old).now.state → MaySettle (S.seen s.old).now.state →
+        MatchBool some (IsStable (S.seen s.old).now.state (S.seen s.new).now.state) (IsEmptied (S.seen s.old).now.state)) }
+    ensures bounded { IsState (S.seen s.old).now.state → MaySettle (S.seen s.old).now.state →
+        work.new.runs ≤ work.old.runs + (length (S.seen s.old).now.state.constraints + sum_by
+        (count_lost (S.seen s.old).now.state (S.seen s.new).now.state) (S.seen s.old).now.state.constraints) }
     ensures within { KeepsWithin limit work.old work.new }
 {
     let mut waiting = Due::new(alloc);
@@ -67,8 +76,10 @@ fn run_all<S: StoredDomains>(
     limit: u64,
 ) -> Result<bool, PropStop>
     ensures keeps { Keeps (S.seen s.old) (S.seen s.new) }
-    ensures ends { MayPropagate (S.seen s.old).now.state waiting.old → Ends (S.seen s.old).now.state waiting.old limit work.old work.new (S.seen s.new).now.state result }
-    ensures under_way { MayPropagate (S.seen s.old).now.state waiting.old → IsUnderWay (S.seen s.old).now.state waiting.old work.old work.new (S.seen s.new).now.state }
+    ensures ends { MayPropagate (S.seen s.old).now.state waiting.old →
+        Ends (S.seen s.old).now.state waiting.old limit work.old work.new (S.seen s.new).now.state result }
+    ensures under_way { MayPropagate (S.seen s.old).now.state waiting.old →
+        IsUnderWay (S.seen s.old).now.state waiting.old work.old work.new (S.seen s.new).now.state }
     ensures within { KeepsWithin limit work.old work.new }
 {
     while let Some(i) = waiting.take() {

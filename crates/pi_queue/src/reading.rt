@@ -17,7 +17,8 @@ pub(crate) fn roots<S: StateStore>(
     items: &[Item],
 ) -> Result<Vec<Item>, AllocError>
     ensures count { IfOk result (λ made. length made.items ≡ length items.now) }
-    ensures roots { IfOk result (λ made. IsAcyclic (bindings (S.seen s.now).now.state) → AreRead (S.seen s.now).now.state items.now → made.items ≡ map (root_item (S.seen s.now).now.state) items.now) }
+    ensures roots { IfOk result (λ made. IsAcyclic (bindings (S.seen s.now).now.state) →
+        AreRead (S.seen s.now).now.state items.now → made.items ≡ map (root_item (S.seen s.now).now.state) items.now) }
 {
     let mut roots = Vec::new(alloc);
     for i in 0..items.len() {
@@ -29,7 +30,9 @@ pub(crate) fn roots<S: StateStore>(
 
 /// What an item comes to: the unbound variable or the integer behind its bindings.
 fn root<S: StateStore>(s: &S, item: Item) -> Item
-    ensures { IsAcyclic (bindings (S.seen s.now).now.state) → IsRoot (S.seen s.now).now.state (root_item (S.seen s.now).now.state item) → result ≡ root_item (S.seen s.now).now.state item }
+    ensures { IsAcyclic (bindings (S.seen s.now).now.state) →
+        IsRoot (S.seen s.now).now.state (root_item (S.seen s.now).now.state item) →
+        result ≡ root_item (S.seen s.now).now.state item }
 {
     match item {
         Item::Int(_) => item,
@@ -38,7 +41,9 @@ fn root<S: StateStore>(s: &S, item: Item) -> Item
 }
 
 fn root_of_variable<S: StateStore>(s: &S, v: u64) -> Item
-    ensures { IsAcyclic (bindings (S.seen s.now).now.state) → IsRoot (S.seen s.now).now.state (root_item (S.seen s.now).now.state (Item.Var v)) → result ≡ root_item (S.seen s.now).now.state (Item.Var v) }
+    ensures { IsAcyclic (bindings (S.seen s.now).now.state) →
+        IsRoot (S.seen s.now).now.state (root_item (S.seen s.now).now.state (Item.Var v)) →
+        result ≡ root_item (S.seen s.now).now.state (Item.Var v) }
 {
     let at = s.var_ref(v);
     match s.look(at) {

@@ -54,7 +54,8 @@ pub(crate) fn standing_count<S: StoredDomains>(store: &S, stand: Stand) -> usize
 
 /// The span with a number, counted from 0.
 pub(crate) fn standing_span<S: StoredDomains>(store: &S, stand: Stand, k: usize) -> Span
-    ensures { k < length (standing (S.seen store.now).now.state stand) → slice_get (standing (S.seen store.now).now.state stand) k ≡ Some result }
+    ensures { k < length (standing (S.seen store.now).now.state stand) →
+        slice_get (standing (S.seen store.now).now.state stand) k ≡ Some result }
 {
     match stand {
         Stand::Nowhere => Span { lo: 0, hi: 0 },

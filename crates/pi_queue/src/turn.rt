@@ -12,7 +12,7 @@ use crate::places::places;
 use crate::reading::roots;
 use crate::waking::wake;
 use pi_constraints::{Constraint, StoredDomains};
-use pi_prop::is_within_limits;
+use pi_prop_filters::is_within_limits;
 use std::alloc::{AllocError, Global};
 
 /// Runs the constraint with a number, and puts those that it wakes behind the others. False where the run fails.
@@ -24,7 +24,8 @@ pub(crate) fn turn<S: StoredDomains>(
 ) -> Result<bool, AllocError>
     ensures keeps { Keeps (S.seen s.old) (S.seen s.new) }
     ensures narrower { MayTurn (S.seen s.old).now.state i → IsNarrower (S.seen s.old).now.state (S.seen s.new).now.state }
-    ensures turns { IfOk result (λ some. MayTurn (S.seen s.old).now.state i → Turns (S.seen s.old).now.state i waiting.old some (S.seen s.new).now.state waiting.new) }
+    ensures turns { IfOk result (λ some. MayTurn (S.seen s.old).now.state i →
+        Turns (S.seen s.old).now.state i waiting.old some (S.seen s.new).now.state waiting.new) }
 {
     let constraint = s.constraint(alloc, i)?;
     let mut lost = Vec::new(alloc);
@@ -45,8 +46,10 @@ fn narrow<S: StoredDomains>(
     lost: &mut Vec<u64>,
 ) -> Result<bool, AllocError>
     ensures keeps { Keeps (S.seen s.old) (S.seen s.new) }
-    ensures narrower { MayNarrow (S.seen s.old).now.state constraint.now lost.old.items → IsNarrower (S.seen s.old).now.state (S.seen s.new).now.state }
-    ensures leaves { IfOk result (λ some. MayNarrow (S.seen s.old).now.state constraint.now lost.old.items → LeavesAll (S.seen s.old).now.state constraint.now some (S.seen s.new).now.state lost.new.items) }
+    ensures narrower { MayNarrow (S.seen s.old).now.state constraint.now lost.old.items →
+        IsNarrower (S.seen s.old).now.state (S.seen s.new).now.state }
+    ensures leaves { IfOk result (λ some. MayNarrow (S.seen s.old).now.state constraint.now lost.old.items →
+        LeavesAll (S.seen s.old).now.state constraint.now some (S.seen s.new).now.state lost.new.items) }
 {
     if !is_within_limits(constraint) {
         return Err(AllocError);

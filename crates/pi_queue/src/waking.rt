@@ -16,7 +16,9 @@ pub(crate) fn wake<S: StateStore>(
     variables: &[u64],
     waiting: &mut Due,
 ) -> Result<(), AllocError>
-    ensures { IfOk result (λ _. IsAcyclic (bindings (S.seen s.now).now.state) → ((n : ℕ) → Contains variables.now n → n < next (S.seen s.now).now.state) → AreAdded (IsOnSome (S.seen s.now).now.state variables.now) waiting.old waiting.new) }
+    ensures { IfOk result (λ _. IsAcyclic (bindings (S.seen s.now).now.state) →
+        ((n : ℕ) → Contains variables.now n → n < next (S.seen s.now).now.state) →
+        AreAdded (IsOnSome (S.seen s.now).now.state variables.now) waiting.old waiting.new) }
 {
     for k in 0..variables.len() {
         wake_on(alloc, s, variables[k], waiting)?;
@@ -26,7 +28,8 @@ pub(crate) fn wake<S: StateStore>(
 
 /// The same of one variable.
 fn wake_on<S: StateStore>(alloc: Global, s: &S, v: u64, waiting: &mut Due) -> Result<(), AllocError>
-    ensures { IfOk result (λ _. IsAcyclic (bindings (S.seen s.now).now.state) → v < next (S.seen s.now).now.state → AreAdded (IsPostedOn (S.seen s.now).now.state v) waiting.old waiting.new) }
+    ensures { IfOk result (λ _. IsAcyclic (bindings (S.seen s.now).now.state) → v < next (S.seen s.now).now.state →
+        AreAdded (IsPostedOn (S.seen s.now).now.state v) waiting.old waiting.new) }
 {
     let posted = s.posted_on(alloc, v)?;
     add_all(waiting, posted.as_slice())?;

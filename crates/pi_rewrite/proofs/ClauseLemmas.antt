@@ -11,18 +11,18 @@ use Rattle.pi_core.specs.declared.goal_node.GoalNode.{GoalNode}
 use Rattle.pi_core.specs.declared.core_program.CoreClause.{CoreClause}
 use Rattle.pi_core.specs.declared.core_program.CoreQuery.{CoreQuery}
 use Rattle.pi_core.proofs.GoalPlaces.{nodes-children}
-use Rattle.pi_meaning.specs.WrittenRules.{head_arguments}
-use Rattle.pi_meaning.specs.Texts.{Names, places, behind}
-use Rattle.pi_meaning.specs.RulesOverNames.{places_in, names_before, function_names}
-use Rattle.pi_meaning.specs.RunOverNames.{answer_names}
-use Rattle.pi_lowered.specs.Slots.{SlotNames, named_slots, slots_behind}
-use Rattle.pi_lowered.specs.Values.{slot_patterns, last_value}
-use Rattle.pi_lowered.specs.Goals.{in_turn}
-use Rattle.pi_lowered.specs.Sites.{Site, behind_site}
-use Rattle.pi_lowered.specs.Written.{made, goal_of}
-use Rattle.pi_lowered.specs.Helpers.{goal_helpers}
-use Rattle.pi_lowered.specs.Programs.{Naming, option_goals, option_count, behind_option, rule_site, written_rule, function_site, value_site, written_function, query_site, core_query}
-use Rattle.pi_lowered.specs.Lowered.{head_slots, is_truth, as_guard, guard_of, lowered_fact}
+use Rattle.pi_meaning.specs.OverNames.WrittenRules.{head_arguments}
+use Rattle.pi_meaning.specs.OverNames.Texts.{Names, places, behind}
+use Rattle.pi_meaning.specs.OverNames.Rules.{places_in, names_before, function_names}
+use Rattle.pi_meaning.specs.OverNames.Run.{answer_names}
+use Rattle.pi_rewrite_spec.specs.Slots.{SlotNames, named_slots, slots_behind}
+use Rattle.pi_rewrite_spec.specs.Values.{slot_patterns, last_value}
+use Rattle.pi_rewrite_spec.specs.Goals.{in_turn}
+use Rattle.pi_rewrite_spec.specs.Sites.{Site, behind_site}
+use Rattle.pi_rewrite_spec.specs.Written.{made, goal_of}
+use Rattle.pi_rewrite_spec.specs.Helpers.{goal_helpers}
+use Rattle.pi_rewrite_spec.specs.Programs.{Naming, option_goals, option_count, behind_option, rule_site, written_rule, function_site, value_site, written_function, query_site, core_query}
+use Rattle.pi_rewrite_spec.specs.Lowered.{head_slots, is_truth, as_guard, guard_of, lowered_fact}
 use Rattle.pi_rewrite.specs.Built.{is_true_node}
 
 -- ---- conditions

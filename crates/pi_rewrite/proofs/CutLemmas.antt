@@ -3,18 +3,18 @@ use Rattle.std.proofs.Common.{◌≡◌, ℕ, List, ◌++◌, sym, ◌∙◌, ap
 use Rattle.pi_syntax.specs.ExpTree.{ExpTree}
 use Rattle.pi_syntax.specs.ProgramTree.{ProgramTree}
 use Rattle.pi_core.specs.CoreTree.{PredTree, QueryTree}
-use Rattle.pi_meaning.specs.Depth.{cut}
+use Rattle.pi_meaning.specs.Traces.Depth.{cut}
 use Rattle.pi_constraints.specs.State.{empty_state}
-use Rattle.pi_meaning.specs.View.{View}
-use Rattle.pi_meaning.specs.Instances.{no_later, whole}
-use Rattle.pi_meaning.specs.Run.{query_trace}
-use Rattle.pi_meaning.specs.Telling.{place_told, told_trace, told_cut}
-use Rattle.pi_meaning.specs.Told.{solution_told}
-use Rattle.pi_meaning.proofs.ToldCuts.{cut-told, stop-told}
-use Rattle.pi_meaning.specs.Stages.{LaterStages}
-use Rattle.pi_meaning.specs.RunOverNames.{answer_names, names_trace}
-use Rattle.pi_faithful.specs.Laws.{query_from}
-use Rattle.pi_sound.specs.TermCalls.{Allows}
+use Rattle.pi_meaning.specs.Shared.View.{View}
+use Rattle.pi_meaning.specs.CoreMeaning.Instances.{no_later, whole}
+use Rattle.pi_meaning.specs.CoreMeaning.Run.{query_trace}
+use Rattle.pi_meaning.specs.OverNames.Telling.{place_told, told_trace, told_cut}
+use Rattle.pi_meaning.specs.Shared.Told.{solution_told}
+use Rattle.pi_meaning.proofs.Traces.ToldCuts.{cut-told, stop-told}
+use Rattle.pi_meaning.specs.OverNames.Stages.{LaterStages}
+use Rattle.pi_meaning.specs.OverNames.Run.{answer_names, names_trace}
+use Rattle.pi_rewrite_laws.specs.Laws.{query_from}
+use Rattle.pi_rewrite_sound.specs.TermCalls.{Allows}
 use Rattle.pi_rewrite.specs.Laws.{MeansTheSame, SameMeaningRunsTheSame}
 
 -- from the empty state

@@ -4,16 +4,16 @@ use Rattle.std.specs.Prelude.{None}
 use Rattle.pi_syntax.specs.ExpTree.{ExpTree}
 use Rattle.pi_syntax.specs.ProgramTree.{ProgramTree}
 use Rattle.pi_core.specs.CoreTree.{PredTree, QueryTree}
-use Rattle.pi_lowered.specs.Programs.{core_program, core_query}
-use Rattle.pi_faithful.specs.WithinLoops.{IsAsked}
-use Rattle.pi_faithful.proofs.TextLawLemmas.{programs-with-loops-are-kept, goals-with-loops-are-kept}
-use Rattle.pi_sound.specs.Built.{unbuilt_part, is_built_goal}
-use Rattle.pi_sound.specs.Within.{IsWithin}
-use Rattle.pi_sound.proofs.RunLemmas.{levels-are-the-same, goals-are-the-same}
-use Rattle.pi_sound.proofs.ProgramLemmas.{programs-sound, programs-closed}
-use Rattle.pi_sound.proofs.PlainLemmas.{programs-plain}
-use Rattle.pi_sound.proofs.QueryLemmas.{queries-sound}
-use Rattle.pi_sites.specs.OwnNames.{own_name}
+use Rattle.pi_rewrite_spec.specs.Programs.{core_program, core_query}
+use Rattle.pi_rewrite_laws.specs.WithinLoops.{IsAsked}
+use Rattle.pi_rewrite_laws.proofs.TextLawLemmas.{programs-with-loops-are-kept, goals-with-loops-are-kept}
+use Rattle.pi_rewrite_sound.specs.Built.{unbuilt_part, is_built_goal}
+use Rattle.pi_rewrite_sound.specs.Within.{IsWithin}
+use Rattle.pi_rewrite_sound.proofs.RunLemmas.{levels-are-the-same, goals-are-the-same}
+use Rattle.pi_rewrite_sound.proofs.ProgramLemmas.{programs-sound, programs-closed}
+use Rattle.pi_rewrite_sound.proofs.PlainLemmas.{programs-plain}
+use Rattle.pi_rewrite_sound.proofs.QueryLemmas.{queries-sound}
+use Rattle.pi_rewrite_sites.specs.OwnNames.{own_name}
 use Rattle.pi_rewrite.specs.Built.{program_prefix, query_prefix}
 use Rattle.pi_rewrite.specs.Laws.{IsLoweredProgram, IsLowered, ProgramsHaveCorePrograms, GoalsHaveQueries}
 use Rattle.pi_rewrite.proofs.OwnLemmas.{program-names, query-names, query-new}

@@ -3,8 +3,8 @@ use Rattle.std.proofs.Common.{◌≡◌, ℕ, ◌+◌, ◌<◌, ◌≤◌, List,
 use Rattle.std.specs.Borrow.{Bor}
 use Rattle.std.proofs.lemmas.List.{append-nil, drop_more, drop_all}
 use Rattle.pi_core.specs.declared.core_program.NameSlot.{NameSlot}
-use Rattle.pi_lowered.specs.Slots.{SlotNames, slot_for, slots_for, named_slots, slots_behind}
-use Rattle.pi_slots.specs.Indexed.{names_in}
+use Rattle.pi_rewrite_spec.specs.Slots.{SlotNames, slot_for, slots_for, named_slots, slots_behind}
+use Rattle.pi_rewrite_slots.specs.Indexed.{names_in}
 
 -- the first so many names have their slots
 pub record NamedTo (names : List (Bor (List ℕ))) (i : ℕ) (before now : SlotNames) (made : List NameSlot) : Type 0 where

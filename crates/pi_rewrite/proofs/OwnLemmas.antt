@@ -16,21 +16,21 @@ use Rattle.pi_effects.specs.Kinds.{kind_tests}
 use Rattle.pi_effects.specs.Texts.{writing_predicates}
 use Rattle.pi_effects.specs.Rows.{has_line}
 use Rattle.pi_core.specs.CoreTree.{PredTree, is_pred, find_pred}
-use Rattle.pi_meaning.specs.Names.{later_predicates, is_later_predicate, is_call, is_given_predicate}
-use Rattle.pi_meaning.specs.WrittenRules.{is_signature}
-use Rattle.pi_meaning.specs.Instances.{is_called_by_name}
-use Rattle.pi_meaning.specs.Prelude.{prelude}
-use Rattle.pi_meaning.specs.RulesOverNames.{predicate_head, function_in, is_head_of, heads_named, functions_named}
-use Rattle.pi_meaning.specs.RunOverNames.{is_some_head}
-use Rattle.pi_meaning.proofs.TableLemmas.{Test, same-name, one-of, lines-hold, signatures-hold, each-line, body-holds, each-below, each-signed}
-use Rattle.pi_lowered.specs.Lowered.{named_by}
-use Rattle.pi_faithful.specs.Within.{is_some_function}
-use Rattle.pi_faithful.specs.Laws.{DefinesTheSame}
-use Rattle.pi_faithful.specs.TextLaws.{AreNew}
-use Rattle.pi_faithful.proofs.HeadLemmas.{text_by_order}
-use Rattle.pi_sites.specs.OwnNames.{own_digits, own_name}
-use Rattle.pi_sites.proofs.DigitLemmas.{names-apart}
-use Rattle.pi_sound.specs.Laws.{AreNames}
+use Rattle.pi_meaning.specs.Shared.Names.{later_predicates, is_later_predicate, is_call, is_given_predicate}
+use Rattle.pi_meaning.specs.OverNames.WrittenRules.{is_signature}
+use Rattle.pi_meaning.specs.CoreMeaning.Instances.{is_called_by_name}
+use Rattle.pi_meaning.specs.OverNames.Prelude.{prelude}
+use Rattle.pi_meaning.specs.OverNames.Rules.{predicate_head, function_in, is_head_of, heads_named, functions_named}
+use Rattle.pi_meaning.specs.OverNames.Run.{is_some_head}
+use Rattle.pi_meaning.proofs.Shared.TableLemmas.{Test, same-name, one-of, lines-hold, signatures-hold, each-line, body-holds, each-below, each-signed}
+use Rattle.pi_rewrite_spec.specs.Lowered.{named_by}
+use Rattle.pi_rewrite_laws.specs.Within.{is_some_function}
+use Rattle.pi_rewrite_laws.specs.Laws.{DefinesTheSame}
+use Rattle.pi_rewrite_laws.specs.TextLaws.{AreNew}
+use Rattle.pi_rewrite_laws.proofs.HeadLemmas.{text_by_order}
+use Rattle.pi_rewrite_sites.specs.OwnNames.{own_digits, own_name}
+use Rattle.pi_rewrite_sites.proofs.DigitLemmas.{names-apart}
+use Rattle.pi_rewrite_sound.specs.Laws.{AreNames}
 use Rattle.pi_rewrite.specs.Built.{name_length, head_length, longest_head, longest_name, tildes, program_prefix, query_prefix}
 
 -- ---- no name of the language

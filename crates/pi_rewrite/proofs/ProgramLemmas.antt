@@ -4,25 +4,25 @@ use Rattle.std.specs.Prelude.{None}
 use Rattle.std.proofs.lemmas.List.{append-nil}
 use Rattle.pi_syntax.specs.ProgramTree.{ProgramTree}
 use Rattle.pi_core.specs.CoreTree.{PredTree}
-use Rattle.pi_meaning.specs.View.{View}
-use Rattle.pi_meaning.specs.Level.{calls_at}
-use Rattle.pi_meaning.specs.Instances.{no_later, whole}
-use Rattle.pi_meaning.specs.Rules.{level_at}
-use Rattle.pi_meaning.specs.Defined.{ProgramCallsDefined, NamesAreFree}
-use Rattle.pi_meaning.specs.Stages.{LaterStages, no_stages}
-use Rattle.pi_meaning.specs.RunOverNames.{program_level}
-use Rattle.pi_lowered.specs.Forms.{Knows}
-use Rattle.pi_faithful.specs.Levels.{SameCalls, SameLevels, GoesByCalls}
-use Rattle.pi_faithful.specs.Laws.{known_of}
-use Rattle.pi_lowered.specs.Programs.{Naming, core_program}
-use Rattle.pi_faithful.specs.TextLaws.{KeepsMeaning, ProgramsWithLoopsAreKept}
-use Rattle.pi_faithful.proofs.AlikeLemmas.{calls-same}
-use Rattle.pi_faithful.proofs.RootNames.{no-later-keeps}
-use Rattle.pi_sound.specs.Built.{unbuilt_part}
-use Rattle.pi_sound.specs.TermCalls.{ProgramAllows}
-use Rattle.pi_sound.specs.Within.{IsWithin}
-use Rattle.pi_sound.specs.LaterLaws.{LevelsAreTheSame}
-use Rattle.pi_sound.specs.Laws.{AreNames, LoweredProgramsAreSound, LoweredProgramsAreClosed, LoweredProgramsArePlain}
+use Rattle.pi_meaning.specs.Shared.View.{View}
+use Rattle.pi_meaning.specs.Shared.Level.{calls_at}
+use Rattle.pi_meaning.specs.CoreMeaning.Instances.{no_later, whole}
+use Rattle.pi_meaning.specs.CoreMeaning.Rules.{level_at}
+use Rattle.pi_meaning.specs.CoreMeaning.Defined.{ProgramCallsDefined, NamesAreFree}
+use Rattle.pi_meaning.specs.OverNames.Stages.{LaterStages, no_stages}
+use Rattle.pi_meaning.specs.OverNames.Run.{program_level}
+use Rattle.pi_rewrite_spec.specs.Forms.{Knows}
+use Rattle.pi_rewrite_laws.specs.Levels.{SameCalls, SameLevels, GoesByCalls}
+use Rattle.pi_rewrite_laws.specs.Laws.{known_of}
+use Rattle.pi_rewrite_spec.specs.Programs.{Naming, core_program}
+use Rattle.pi_rewrite_laws.specs.TextLaws.{KeepsMeaning, ProgramsWithLoopsAreKept}
+use Rattle.pi_rewrite_laws.proofs.AlikeLemmas.{calls-same}
+use Rattle.pi_rewrite_laws.proofs.RootNames.{no-later-keeps}
+use Rattle.pi_rewrite_sound.specs.Built.{unbuilt_part}
+use Rattle.pi_rewrite_sound.specs.TermCalls.{ProgramAllows}
+use Rattle.pi_rewrite_sound.specs.Within.{IsWithin}
+use Rattle.pi_rewrite_sound.specs.LaterLaws.{LevelsAreTheSame}
+use Rattle.pi_rewrite_sound.specs.Laws.{AreNames, LoweredProgramsAreSound, LoweredProgramsAreClosed, LoweredProgramsArePlain}
 use Rattle.pi_rewrite.specs.Laws.{CallsTheSame, IsLoweredProgram}
 
 -- what is unknown asks for no call

@@ -4,22 +4,22 @@ use Rattle.std.specs.Prelude.{None}
 use Rattle.pi_syntax.specs.ExpTree.{ExpTree}
 use Rattle.pi_syntax.specs.ProgramTree.{ProgramTree}
 use Rattle.pi_core.specs.CoreTree.{PredTree}
-use Rattle.pi_meaning.specs.View.{View}
-use Rattle.pi_meaning.specs.Place.{Place, at_state, beginning}
-use Rattle.pi_meaning.specs.Telling.{place_told, told_trace}
-use Rattle.pi_meaning.specs.Stages.{LaterStages, no_stages}
-use Rattle.pi_meaning.specs.RunOverNames.{answer_names, names_from}
-use Rattle.pi_faithful.specs.Laws as over_whole
-use Rattle.pi_faithful.specs.Laws.{known_of}
-use Rattle.pi_lowered.specs.Programs.{Naming, core_query}
-use Rattle.pi_faithful.specs.WithinLoops.{IsAsked}
-use Rattle.pi_faithful.specs.TextLaws.{AreNew, GoalsWithLoopsAreKept}
-use Rattle.pi_faithful.proofs.RootNames.{no-later-keeps}
-use Rattle.pi_sound.specs.Built.{unbuilt_part, is_built_goal}
-use Rattle.pi_sound.specs.TermCalls.{Allows}
-use Rattle.pi_sound.specs.Within.{IsWithin}
-use Rattle.pi_sound.specs.LaterLaws.{GoalsAreTheSame}
-use Rattle.pi_sound.specs.Laws.{AreNames, QueryFits, LoweredQueriesAreSound}
+use Rattle.pi_meaning.specs.Shared.View.{View}
+use Rattle.pi_meaning.specs.OverNames.Place.{Place, at_state, beginning}
+use Rattle.pi_meaning.specs.OverNames.Telling.{place_told, told_trace}
+use Rattle.pi_meaning.specs.OverNames.Stages.{LaterStages, no_stages}
+use Rattle.pi_meaning.specs.OverNames.Run.{answer_names, names_from}
+use Rattle.pi_rewrite_laws.specs.Laws as over_whole
+use Rattle.pi_rewrite_laws.specs.Laws.{known_of}
+use Rattle.pi_rewrite_spec.specs.Programs.{Naming, core_query}
+use Rattle.pi_rewrite_laws.specs.WithinLoops.{IsAsked}
+use Rattle.pi_rewrite_laws.specs.TextLaws.{AreNew, GoalsWithLoopsAreKept}
+use Rattle.pi_rewrite_laws.proofs.RootNames.{no-later-keeps}
+use Rattle.pi_rewrite_sound.specs.Built.{unbuilt_part, is_built_goal}
+use Rattle.pi_rewrite_sound.specs.TermCalls.{Allows}
+use Rattle.pi_rewrite_sound.specs.Within.{IsWithin}
+use Rattle.pi_rewrite_sound.specs.LaterLaws.{GoalsAreTheSame}
+use Rattle.pi_rewrite_sound.specs.Laws.{AreNames, QueryFits, LoweredQueriesAreSound}
 use Rattle.pi_rewrite.specs.Laws.{IsCoreProgram, IsLoweredProgram, MeansTheSame, IsLowered}
 use Rattle.pi_rewrite.proofs.ProgramLemmas.{goes-by-nothing}
 use Rattle.pi_rewrite.proofs.CutLemmas.{same-meaning-runs-the-same}

@@ -3,9 +3,9 @@ use Rattle.std.proofs.Common.{◌≡◌, ℕ, ◌+◌, ◌<◌, ◌≤◌, true,
 use Rattle.std.specs.Borrow.{Bor}
 use Rattle.std.proofs.lemmas.Bool.{cond-true, cond-false}
 use Rattle.std.proofs.lemmas.List.{drop_more, drop_all, map-append}
-use Rattle.pi_meaning.specs.Telling.{is_hidden, one_more, told_behind}
-use Rattle.pi_meaning.specs.Texts.{Names, is_among}
-use Rattle.pi_slots.specs.Indexed.{names_in}
+use Rattle.pi_meaning.specs.OverNames.Telling.{is_hidden, one_more, told_behind}
+use Rattle.pi_meaning.specs.OverNames.Texts.{Names, is_among}
+use Rattle.pi_rewrite_slots.specs.Indexed.{names_in}
 
 -- what is told so far, and the names that are left
 abbrev pub ToldTo : List (Bor (List ℕ)) → ℕ → Names → Type 0

@@ -5,9 +5,9 @@ use Rattle.pi_core.specs.declared.goal_node.GoalNode.{GoalNode}
 use Rattle.pi_syntax.specs.ExpTree.{ExpTree}
 use Rattle.pi_syntax.specs.ProgramTree.{WrittenClause, ProgramTree}
 use Rattle.pi_syntax.specs.Signature.{Signature, signature}
-use Rattle.pi_meaning.specs.WrittenRules.{is_signature}
-use Rattle.pi_meaning.specs.Prelude.{prelude}
-use Rattle.pi_lowered.specs.Lowered.{Lowering, named_by, same_kind, grouped, grouped_all}
+use Rattle.pi_meaning.specs.OverNames.WrittenRules.{is_signature}
+use Rattle.pi_meaning.specs.OverNames.Prelude.{prelude}
+use Rattle.pi_rewrite_spec.specs.Lowered.{Lowering, named_by, same_kind, grouped, grouped_all}
 
 -- predicates of which the last one may go on, and the clauses behind them
 unfoldable pub lowered_behind : List PredTree → List Lowering → List PredTree

@@ -1,31 +1,31 @@
 -- What lowering keeps. A core program keeps the meaning of a program, and a query that of a goal: both are sound, and what they do where no later stage of the language is there is what is
--- done over names, with the prelude in front, whatever later stages give (`Allows` says where one of them calls terms). What they are stands in `Programs` of `pi_lowered`.
+-- done over names, with the prelude in front, whatever later stages give (`Allows` says where one of them calls terms). What they are stands in `Programs` of `pi_rewrite_spec`.
 use Rattle.std.specs.Prelude.{◌≡◌, ℕ, true, List, ◌++◌, None, All, IsTrue}
 use Rattle.pi_terms.specs.Tree.{Trees, tree_count}
 use Rattle.pi_constraints.specs.State.{State}
 use Rattle.pi_syntax.specs.ExpTree.{ExpTree}
 use Rattle.pi_syntax.specs.ProgramTree.{ProgramTree}
 use Rattle.pi_core.specs.CoreTree.{PredTree, QueryTree}
-use Rattle.pi_meaning.specs.Depth.{Cut}
-use Rattle.pi_meaning.specs.View.{View}
-use Rattle.pi_meaning.specs.Level.{calls_at}
-use Rattle.pi_meaning.specs.Instances.{no_later, whole}
-use Rattle.pi_meaning.specs.Rules.{level_at}
-use Rattle.pi_meaning.specs.Run.{Solution, IsRunUnder}
-use Rattle.pi_meaning.specs.Sound.{IsSound, IsSoundQuery}
-use Rattle.pi_meaning.specs.Defined.{ProgramCallsDefined, QueryCallsDefined, NamesAreFree}
-use Rattle.pi_meaning.specs.Place.{at_state, beginning}
-use Rattle.pi_meaning.specs.Telling.{place_told, told_trace, told_cut}
-use Rattle.pi_meaning.specs.Told.{solution_told}
-use Rattle.pi_meaning.specs.Stages.{LaterStages}
-use Rattle.pi_meaning.specs.RunOverNames.{program_level, answer_names, names_from, IsNamesRun}
-use Rattle.pi_faithful.specs.WithinLoops.{IsAsked}
-use Rattle.pi_faithful.specs.Laws.{known_of, DefinesTheSame, query_from}
-use Rattle.pi_lowered.specs.Programs.{Naming, core_program}
-use Rattle.pi_sound.specs.Built.{unbuilt_part, is_built_goal}
-use Rattle.pi_sound.specs.Within.{IsWithin}
-use Rattle.pi_sound.specs.TermCalls.{ProgramAllows, Allows}
-use Rattle.pi_sound.specs.Laws.{IsPlain, AreNames}
+use Rattle.pi_meaning.specs.Traces.Depth.{Cut}
+use Rattle.pi_meaning.specs.Shared.View.{View}
+use Rattle.pi_meaning.specs.Shared.Level.{calls_at}
+use Rattle.pi_meaning.specs.CoreMeaning.Instances.{no_later, whole}
+use Rattle.pi_meaning.specs.CoreMeaning.Rules.{level_at}
+use Rattle.pi_meaning.specs.CoreMeaning.Run.{Solution, IsRunUnder}
+use Rattle.pi_meaning.specs.CoreMeaning.Sound.{IsSound, IsSoundQuery}
+use Rattle.pi_meaning.specs.CoreMeaning.Defined.{ProgramCallsDefined, QueryCallsDefined, NamesAreFree}
+use Rattle.pi_meaning.specs.OverNames.Place.{at_state, beginning}
+use Rattle.pi_meaning.specs.OverNames.Telling.{place_told, told_trace, told_cut}
+use Rattle.pi_meaning.specs.Shared.Told.{solution_told}
+use Rattle.pi_meaning.specs.OverNames.Stages.{LaterStages}
+use Rattle.pi_meaning.specs.OverNames.Run.{program_level, answer_names, names_from, IsNamesRun}
+use Rattle.pi_rewrite_laws.specs.WithinLoops.{IsAsked}
+use Rattle.pi_rewrite_laws.specs.Laws.{known_of, DefinesTheSame, query_from}
+use Rattle.pi_rewrite_spec.specs.Programs.{Naming, core_program}
+use Rattle.pi_rewrite_sound.specs.Built.{unbuilt_part, is_built_goal}
+use Rattle.pi_rewrite_sound.specs.Within.{IsWithin}
+use Rattle.pi_rewrite_sound.specs.TermCalls.{ProgramAllows, Allows}
+use Rattle.pi_rewrite_sound.specs.Laws.{IsPlain, AreNames}
 
 -- ---- programs
 

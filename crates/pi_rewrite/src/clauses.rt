@@ -3,20 +3,20 @@ ghost use Rattle.std.specs.Prelude.{◌≡◌, ◌++◌, [], length, map, option
 ghost use Rattle.pi_syntax.specs.ExpTree.{exp_tree};
 ghost use Rattle.pi_syntax.specs.ProgramTree.{rule_tree, function_tree};
 ghost use Rattle.pi_core.specs.CoreTree.{clause_tree, pattern_trees, pred_tree};
-ghost use Rattle.pi_meaning.specs.WrittenRules.{head_arguments};
-ghost use Rattle.pi_meaning.specs.Texts.{behind, places};
-ghost use Rattle.pi_lowered.specs.Lowered.{guard_of, lowered_fact};
-ghost use Rattle.pi_lowered.specs.Programs.{behind_option, option_goals, option_helpers, written_rule, rule_helpers, written_function, function_helpers};
-ghost use Rattle.pi_lowered.specs.Values.{slot_patterns};
-ghost use Rattle.pi_sites.specs.OwnNames.{own_name};
-ghost use Rattle.pi_sites.specs.SiteOf.{site_of};
+ghost use Rattle.pi_meaning.specs.OverNames.WrittenRules.{head_arguments};
+ghost use Rattle.pi_meaning.specs.OverNames.Texts.{behind, places};
+ghost use Rattle.pi_rewrite_spec.specs.Lowered.{guard_of, lowered_fact};
+ghost use Rattle.pi_rewrite_spec.specs.Programs.{behind_option, option_goals, option_helpers, written_rule, rule_helpers, written_function, function_helpers};
+ghost use Rattle.pi_rewrite_spec.specs.Values.{slot_patterns};
+ghost use Rattle.pi_rewrite_sites.specs.OwnNames.{own_name};
+ghost use Rattle.pi_rewrite_sites.specs.SiteOf.{site_of};
 
 use crate::goals::{lower_body, lower_goal_or_none, lower_guard, lower_head};
 use crate::places::{clause_site, pass_option};
 use pi_core::{CoreClause, CoreGoal, CorePred, Patterns, SlotWatches};
-use pi_lowering::{in_turn, lower_value};
-use pi_sites::{Naming, Site};
-use pi_slots::Slots;
+use pi_rewrite_goals::{in_turn, lower_value};
+use pi_rewrite_sites::{Naming, Site};
+use pi_rewrite_slots::Slots;
 use pi_syntax::{Exp, FunctionClause, RuleClause};
 use std::alloc::{AllocError, Global};
 
@@ -41,8 +41,11 @@ pub(crate) fn lower_rule<'a>(
     rule: &'a RuleClause,
     helpers: &mut Vec<CorePred>,
 ) -> Result<CoreClause, AllocError>
-    ensures is { IfOk result (λ clause. clause_tree clause ≡ written_rule (own_name from.entry.naming.now.prefix) from.entry.count (rule_tree rule.now)) }
-    ensures helpers { IfOk result (λ _. map pred_tree helpers.new.items ≡ map pred_tree helpers.old.items ++ rule_helpers (own_name from.entry.naming.now.prefix) from.entry.count (rule_tree rule.now)) }
+    ensures is { IfOk result (λ clause. clause_tree clause ≡
+        written_rule (own_name from.entry.naming.now.prefix) from.entry.count (rule_tree rule.now)) }
+    ensures helpers { IfOk result (λ _. map pred_tree helpers.new.items ≡
+        map pred_tree helpers.old.items ++ rule_helpers (own_name from.entry.naming.now.prefix) from.entry.count
+        (rule_tree rule.now)) }
 {
     let mut slots = Slots::new(alloc);
     let mut begun = begin(alloc, from, &rule.head, &mut slots)?;
@@ -67,9 +70,16 @@ fn begin<'a>(
     head: &'a Exp,
     slots: &mut Slots<'a>,
 ) -> Result<Begun<'a>, AllocError>
-    ensures patterns { IfOk result (λ begun. pattern_trees begun.patterns.items ≡ (slot_patterns (head_arguments (exp_tree head.now)) slots.old).forms) }
+    ensures patterns { IfOk result (λ begun. pattern_trees begun.patterns.items ≡
+        (slot_patterns (head_arguments (exp_tree head.now)) slots.old).forms) }
     ensures slots { IfOk result (λ _. slots.new ≡ (slot_patterns (head_arguments (exp_tree head.now)) slots.old).names) }
-    ensures site { IfOk result (λ begun. site_of begun.site ≡ record { filled = length slots.new; before = behind [] (places (exp_tree head.now)); helpers = from.entry.count; called = own_name from.entry.naming.now.prefix }) }
+    ensures site { IfOk result (λ begun. site_of begun.site ≡
+        record {
+          filled = length slots.new;
+          before = behind [] (places (exp_tree head.now));
+          helpers = from.entry.count;
+          called = own_name from.entry.naming.now.prefix;
+        }) }
 {
     let patterns = lower_head(alloc, head, slots)?;
     let filled = slots.count()?;
@@ -85,9 +95,12 @@ fn guarded<'a>(
     slots: &mut Slots<'a>,
     helpers: &mut Vec<CorePred>,
 ) -> Result<CoreGoal, AllocError>
-    ensures is { IfOk result (λ made. made ≡ guard_of (option_map exp_tree (option_copied cond.entry)) (option_goals (site_of site.old) (option_map exp_tree (option_copied cond.entry)) slots.old)) }
-    ensures slots { IfOk result (λ _. slots.new ≡ (option_goals (site_of site.old) (option_map exp_tree (option_copied cond.entry)) slots.old).names) }
-    ensures helpers { IfOk result (λ _. map pred_tree helpers.new.items ≡ map pred_tree helpers.old.items ++ option_helpers (site_of site.old) (option_map exp_tree (option_copied cond.entry))) }
+    ensures is { IfOk result (λ made. made ≡ guard_of (option_map exp_tree (option_copied cond.entry))
+        (option_goals (site_of site.old) (option_map exp_tree (option_copied cond.entry)) slots.old)) }
+    ensures slots { IfOk result (λ _. slots.new ≡
+        (option_goals (site_of site.old) (option_map exp_tree (option_copied cond.entry)) slots.old).names) }
+    ensures helpers { IfOk result (λ _. map pred_tree helpers.new.items ≡
+        map pred_tree helpers.old.items ++ option_helpers (site_of site.old) (option_map exp_tree (option_copied cond.entry))) }
     ensures site { IfOk result (λ _. site_of site.new ≡ behind_option (site_of site.old) (option_map exp_tree (option_copied cond.entry))) }
 {
     let guard = lower_guard(alloc, site, cond, slots, helpers)?;
@@ -122,8 +135,11 @@ pub(crate) fn lower_function<'a>(
     function: &'a FunctionClause,
     helpers: &mut Vec<CorePred>,
 ) -> Result<CoreClause, AllocError>
-    ensures is { IfOk result (λ clause. clause_tree clause ≡ written_function (own_name from.entry.naming.now.prefix) from.entry.count (function_tree function.now)) }
-    ensures helpers { IfOk result (λ _. map pred_tree helpers.new.items ≡ map pred_tree helpers.old.items ++ function_helpers (own_name from.entry.naming.now.prefix) from.entry.count (function_tree function.now)) }
+    ensures is { IfOk result (λ clause. clause_tree clause ≡
+        written_function (own_name from.entry.naming.now.prefix) from.entry.count (function_tree function.now)) }
+    ensures helpers { IfOk result (λ _. map pred_tree helpers.new.items ≡
+        map pred_tree helpers.old.items ++ function_helpers (own_name from.entry.naming.now.prefix) from.entry.count
+        (function_tree function.now)) }
 {
     let mut slots = Slots::new(alloc);
     let mut begun = begin(alloc, from, &function.head, &mut slots)?;

@@ -2,25 +2,25 @@
 ghost use Rattle.std.specs.Prelude.{◌≡◌, ◌++◌, map, option_map, option_copied, IfOk};
 ghost use Rattle.pi_syntax.specs.ExpTree.{exp_tree};
 ghost use Rattle.pi_core.specs.CoreTree.{pattern_trees, pred_tree};
-ghost use Rattle.pi_meaning.specs.WrittenRules.{head_arguments};
-ghost use Rattle.pi_lowered.specs.Values.{slot_patterns as patterns_of};
-ghost use Rattle.pi_lowered.specs.Goals.{in_turn as turn_of};
-ghost use Rattle.pi_lowered.specs.Written.{goal_of};
-ghost use Rattle.pi_lowered.specs.Helpers.{goal_helpers};
-ghost use Rattle.pi_lowered.specs.Programs.{option_goals, option_helpers};
-ghost use Rattle.pi_lowered.specs.Lowered.{as_guard as guard_as, guard_of, is_truth as is_truth_tree};
-ghost use Rattle.pi_sites.specs.SiteOf.{site_of};
+ghost use Rattle.pi_meaning.specs.OverNames.WrittenRules.{head_arguments};
+ghost use Rattle.pi_rewrite_spec.specs.Values.{slot_patterns as patterns_of};
+ghost use Rattle.pi_rewrite_spec.specs.Goals.{in_turn as turn_of};
+ghost use Rattle.pi_rewrite_spec.specs.Written.{goal_of};
+ghost use Rattle.pi_rewrite_spec.specs.Helpers.{goal_helpers};
+ghost use Rattle.pi_rewrite_spec.specs.Programs.{option_goals, option_helpers};
+ghost use Rattle.pi_rewrite_spec.specs.Lowered.{as_guard as guard_as, guard_of, is_truth as is_truth_tree};
+ghost use Rattle.pi_rewrite_sites.specs.SiteOf.{site_of};
 ghost use Rattle.pi_rewrite.specs.Built.{is_true_node};
 
 use pi_core::{CoreGoal, CorePred, GoalNode, Patterns};
-use pi_lowering::{in_turn, lower_goal};
-use pi_sites::Site;
-use pi_slots::{Slots, slot_patterns};
+use pi_rewrite_goals::{in_turn, lower_goal};
+use pi_rewrite_sites::Site;
+use pi_rewrite_slots::{Slots, slot_patterns};
 use pi_syntax::Exp;
 use std::alloc::{AllocError, Global};
 
 /// The patterns of a head's arguments.
-#[tactic(auto, unfolding(pi_syntax::specs::ExpTree::exp_tree, pi_core::specs::CoreTree::pattern_trees, pi_lowered::specs::Values::slot_patterns))]
+#[tactic(auto, unfolding(pi_syntax::specs::ExpTree::exp_tree, pi_core::specs::CoreTree::pattern_trees, pi_rewrite_spec::specs::Values::slot_patterns))]
 pub(crate) fn lower_head<'a>(
     alloc: Global,
     head: &'a Exp,
@@ -48,7 +48,8 @@ pub(crate) fn lower_body<'a>(
 ) -> Result<CoreGoal, AllocError>
     ensures is { IfOk result (λ made. made ≡ turn_of (goal_of (site_of site.now) (exp_tree body.now) slots.old).goals) }
     ensures slots { IfOk result (λ _. slots.new ≡ (goal_of (site_of site.now) (exp_tree body.now) slots.old).names) }
-    ensures helpers { IfOk result (λ _. map pred_tree helpers.new.items ≡ map pred_tree helpers.old.items ++ goal_helpers (site_of site.now) (exp_tree body.now)) }
+    ensures helpers { IfOk result (λ _. map pred_tree helpers.new.items ≡
+        map pred_tree helpers.old.items ++ goal_helpers (site_of site.now) (exp_tree body.now)) }
 {
     let mut goals = Vec::new(alloc);
     lower_goal(alloc, site, body, slots, &mut goals, helpers)?;
@@ -64,9 +65,12 @@ pub(crate) fn lower_guard<'a>(
     slots: &mut Slots<'a>,
     helpers: &mut Vec<CorePred>,
 ) -> Result<CoreGoal, AllocError>
-    ensures is { IfOk result (λ made. made ≡ guard_of (option_map exp_tree (option_copied cond.entry)) (option_goals (site_of site.now) (option_map exp_tree (option_copied cond.entry)) slots.old)) }
-    ensures slots { IfOk result (λ _. slots.new ≡ (option_goals (site_of site.now) (option_map exp_tree (option_copied cond.entry)) slots.old).names) }
-    ensures helpers { IfOk result (λ _. map pred_tree helpers.new.items ≡ map pred_tree helpers.old.items ++ option_helpers (site_of site.now) (option_map exp_tree (option_copied cond.entry))) }
+    ensures is { IfOk result (λ made. made ≡ guard_of (option_map exp_tree (option_copied cond.entry))
+        (option_goals (site_of site.now) (option_map exp_tree (option_copied cond.entry)) slots.old)) }
+    ensures slots { IfOk result (λ _. slots.new ≡
+        (option_goals (site_of site.now) (option_map exp_tree (option_copied cond.entry)) slots.old).names) }
+    ensures helpers { IfOk result (λ _. map pred_tree helpers.new.items ≡
+        map pred_tree helpers.old.items ++ option_helpers (site_of site.now) (option_map exp_tree (option_copied cond.entry))) }
 {
     match cond {
         None => {
@@ -116,9 +120,12 @@ pub(crate) fn lower_goal_or_none<'a>(
     goals: &mut Vec<CoreGoal>,
     helpers: &mut Vec<CorePred>,
 ) -> Result<(), AllocError>
-    ensures goals { IfOk result (λ _. goals.new.items ≡ goals.old.items ++ (option_goals (site_of site.now) (option_map exp_tree (option_copied body.entry)) slots.old).goals) }
-    ensures slots { IfOk result (λ _. slots.new ≡ (option_goals (site_of site.now) (option_map exp_tree (option_copied body.entry)) slots.old).names) }
-    ensures helpers { IfOk result (λ _. map pred_tree helpers.new.items ≡ map pred_tree helpers.old.items ++ option_helpers (site_of site.now) (option_map exp_tree (option_copied body.entry))) }
+    ensures goals { IfOk result (λ _. goals.new.items ≡
+        goals.old.items ++ (option_goals (site_of site.now) (option_map exp_tree (option_copied body.entry)) slots.old).goals) }
+    ensures slots { IfOk result (λ _. slots.new ≡
+        (option_goals (site_of site.now) (option_map exp_tree (option_copied body.entry)) slots.old).names) }
+    ensures helpers { IfOk result (λ _. map pred_tree helpers.new.items ≡
+        map pred_tree helpers.old.items ++ option_helpers (site_of site.now) (option_map exp_tree (option_copied body.entry))) }
 {
     match body {
         None => Ok(()),

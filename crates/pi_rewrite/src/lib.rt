@@ -4,9 +4,9 @@
 ghost use Rattle.std.specs.Prelude.{◌≡◌, None, IfOk};
 ghost use Rattle.pi_core.specs.CoreTree.{program_tree, query_tree};
 ghost use Rattle.pi_syntax.specs.ProgramTree.{ProgramTree, source_tree, goal_source};
-ghost use Rattle.pi_faithful.specs.WithinLoops.{IsAsked};
-ghost use Rattle.pi_sound.specs.Built.{unbuilt_part, unbuilt_goal};
-ghost use Rattle.pi_sound.specs.Within.{IsWithin};
+ghost use Rattle.pi_rewrite_laws.specs.WithinLoops.{IsAsked};
+ghost use Rattle.pi_rewrite_sound.specs.Built.{unbuilt_part, unbuilt_goal};
+ghost use Rattle.pi_rewrite_sound.specs.Within.{IsWithin};
 ghost use Rattle.pi_rewrite.specs.Laws.{IsLoweredProgram, IsLowered};
 ghost use Rattle.pi_rewrite.specs.Told.{part_told};
 
@@ -22,7 +22,7 @@ mod telling;
 
 pub use lower_fault::LowerFault;
 use pi_core::{CoreProgram, CoreQuery};
-use pi_sound::{is_built_goal, unbuilt};
+use pi_rewrite_sound::{is_built_goal, unbuilt};
 use pi_syntax::{Goal, Program};
 use std::alloc::Global;
 
@@ -32,7 +32,8 @@ use std::alloc::Global;
 /// Where it has a part that isn't built, the first such is told, and nothing is lowered. `import` is passed over.
 pub fn lower(alloc: Global, program: &Program) -> Result<CoreProgram, LowerFault>
     ensures unbuilt { part_told result ≡ unbuilt_part (source_tree program.now) }
-    ensures lowered { IfOk result (λ core. IsWithin (source_tree program.now) → IsLoweredProgram (source_tree program.now) (program_tree core)) }
+    ensures lowered { IfOk result (λ core. IsWithin (source_tree program.now) →
+        IsLoweredProgram (source_tree program.now) (program_tree core)) }
 {
     if let Some(number) = unbuilt(program) {
         return Err(LowerFault::NotBuilt {
@@ -50,7 +51,9 @@ pub fn lower(alloc: Global, program: &Program) -> Result<CoreProgram, LowerFault
 /// the query keeps that of the goal.
 pub fn lower_goal(alloc: Global, goal: &Goal, core: &CoreProgram) -> Result<CoreQuery, LowerFault>
     ensures unbuilt { part_told result ≡ unbuilt_goal (goal_source goal.now) }
-    ensures lowered { IfOk result (λ query. (program : ProgramTree) → IsWithin program → unbuilt_part program ≡ None → IsAsked program (goal_source goal.now) → IsLoweredProgram program (program_tree core.now) → IsLowered program (goal_source goal.now) (program_tree core.now) (query_tree query)) }
+    ensures lowered { IfOk result (λ query. (program : ProgramTree) → IsWithin program → unbuilt_part program ≡ None →
+        IsAsked program (goal_source goal.now) → IsLoweredProgram program (program_tree core.now) →
+        IsLowered program (goal_source goal.now) (program_tree core.now) (query_tree query)) }
 {
     if !is_built_goal(&goal.body) {
         return Err(LowerFault::NotBuilt { number: 1 });

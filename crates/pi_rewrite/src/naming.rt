@@ -6,7 +6,7 @@ ghost use Rattle.pi_core.specs.CoreTree.{pred_tree};
 ghost use Rattle.pi_rewrite.specs.Built as spec;
 
 use pi_core::CorePred;
-use pi_sites::Naming;
+use pi_rewrite_sites::Naming;
 use pi_syntax::{Clause, Exp, Part};
 use pi_terms::Text;
 use std::alloc::{AllocError, Global};
@@ -17,7 +17,8 @@ pub(crate) fn program_naming(
     prelude: &[Part],
     program: &[Part],
 ) -> Result<Naming, AllocError>
-    ensures { IfOk result (λ made. made.prefix ≡ spec.tildes (suc (spec.longest_head 0 (map part_tree prelude.now ++ map part_tree program.now)))) }
+    ensures { IfOk result (λ made. made.prefix ≡ spec.tildes
+        (suc (spec.longest_head 0 (map part_tree prelude.now ++ map part_tree program.now)))) }
 {
     let most = longest_head(0, prelude);
     let most = longest_head(most, program);

@@ -2,12 +2,12 @@
 ghost use Rattle.std.specs.Prelude.{◌≡◌, ◌+◌, [], option_map, option_copied, IfOk};
 ghost use Rattle.pi_syntax.specs.ExpTree.{exp_tree};
 ghost use Rattle.pi_syntax.specs.ProgramTree.{part_tree, rule_tree, function_tree};
-ghost use Rattle.pi_meaning.specs.Texts.{places, behind};
-ghost use Rattle.pi_lowered.specs.Programs.{behind_option, option_count, rule_count, function_count, clause_count};
-ghost use Rattle.pi_sites.specs.OwnNames.{own_name};
-ghost use Rattle.pi_sites.specs.SiteOf.{site_of};
+ghost use Rattle.pi_meaning.specs.OverNames.Texts.{places, behind};
+ghost use Rattle.pi_rewrite_spec.specs.Programs.{behind_option, option_count, rule_count, function_count, clause_count};
+ghost use Rattle.pi_rewrite_sites.specs.OwnNames.{own_name};
+ghost use Rattle.pi_rewrite_sites.specs.SiteOf.{site_of};
 
-use pi_sites::{Naming, Site, helpers_in, push_names, together};
+use pi_rewrite_sites::{Naming, Site, helpers_in, push_names, together};
 use pi_syntax::{Clause, Exp, FunctionClause, Part, RuleClause};
 use std::alloc::{AllocError, Global};
 
@@ -19,7 +19,13 @@ pub(crate) fn clause_site<'a>(
     filled: u32,
     head: &'a Exp,
 ) -> Result<Site<'a>, AllocError>
-    ensures { IfOk result (λ made. site_of made ≡ record { filled = filled; before = behind [] (places (exp_tree head.now)); helpers = helpers; called = own_name naming.now.prefix }) }
+    ensures { IfOk result (λ made. site_of made ≡
+        record {
+          filled = filled;
+          before = behind [] (places (exp_tree head.now));
+          helpers = helpers;
+          called = own_name naming.now.prefix;
+        }) }
 {
     let mut names = Vec::new(alloc);
     push_names(false, head, &mut names)?;

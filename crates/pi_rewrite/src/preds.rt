@@ -6,9 +6,9 @@ ghost use Rattle.pi_syntax.specs.ProgramTree as tree;
 ghost use Rattle.pi_syntax.specs.ProgramTree.{ProgramTree, part_tree, source_tree};
 ghost use Rattle.pi_syntax.specs.Signature.{signature as signature_of};
 ghost use Rattle.pi_core.specs.CoreTree.{clause_tree, pred_tree, index_of};
-ghost use Rattle.pi_lowered.specs.Lowered.{Lowering, named_by, with_first, with_next, is_clause_of};
-ghost use Rattle.pi_lowered.specs.Programs.{written_clause, rule_helpers, function_helpers, clause_helpers, clauses_of, helpers_of, core_program};
-ghost use Rattle.pi_sites.specs.OwnNames.{own_name};
+ghost use Rattle.pi_rewrite_spec.specs.Lowered.{Lowering, named_by, with_first, with_next, is_clause_of};
+ghost use Rattle.pi_rewrite_spec.specs.Programs.{written_clause, rule_helpers, function_helpers, clause_helpers, clauses_of, helpers_of, core_program};
+ghost use Rattle.pi_rewrite_sites.specs.OwnNames.{own_name};
 ghost use Rattle.pi_rewrite.specs.Built.{lowered_behind, is_clause_named, program_prefix};
 
 use crate::clauses::{Numbered, lower_fact, lower_function, lower_rule};
@@ -16,7 +16,7 @@ use crate::naming::program_naming;
 use crate::places::behind_part;
 use pi_core::{CoreClause, CoreClauses, CorePred, CorePreds};
 use pi_prog::read_prelude;
-use pi_sites::Naming;
+use pi_rewrite_sites::Naming;
 use pi_syntax::{Clause, Decl, Exp, FunctionClause, ModeLists, Modes, Part, Program, RuleClause};
 use pi_terms::Text;
 use std::alloc::{AllocError, Global};
@@ -31,7 +31,8 @@ struct Named<'a> {
 
 /// The predicates and functions of a program, behind those of the prelude, and behind all of them the helpers of loops.
 pub(crate) fn lower_program(alloc: Global, program: &Program) -> Result<CorePreds, AllocError>
-    ensures { IfOk result (λ preds. map pred_tree preds ≡ core_program (own_name (program_prefix (source_tree program.now))) (source_tree program.now)) }
+    ensures { IfOk result (λ preds. map pred_tree preds ≡
+        core_program (own_name (program_prefix (source_tree program.now))) (source_tree program.now)) }
 {
     let prelude = read_prelude(alloc)?;
     let naming = program_naming(alloc, prelude.parts.as_slice(), program.parts.as_slice())?;
@@ -67,8 +68,13 @@ fn lower_parts(
     preds: &mut Vec<CorePred>,
     helpers: &mut Vec<CorePred>,
 ) -> Result<u64, AllocError>
-    ensures preds { IfOk result (λ count. (rest : ProgramTree) → lowered_behind (map pred_tree preds.old.items) (clauses_of (own_name naming.now.prefix) before (map part_tree parts.now ++ rest)) ≡ lowered_behind (map pred_tree preds.new.items) (clauses_of (own_name naming.now.prefix) count rest)) }
-    ensures helpers { IfOk result (λ count. (rest : ProgramTree) → map pred_tree helpers.old.items ++ helpers_of (own_name naming.now.prefix) before (map part_tree parts.now ++ rest) ≡ map pred_tree helpers.new.items ++ helpers_of (own_name naming.now.prefix) count rest) }
+    ensures preds { IfOk result (λ count. (rest : ProgramTree) →
+        lowered_behind (map pred_tree preds.old.items)
+        (clauses_of (own_name naming.now.prefix) before (map part_tree parts.now ++ rest)) ≡
+        lowered_behind (map pred_tree preds.new.items) (clauses_of (own_name naming.now.prefix) count rest)) }
+    ensures helpers { IfOk result (λ count. (rest : ProgramTree) →
+        map pred_tree helpers.old.items ++ helpers_of (own_name naming.now.prefix) before (map part_tree parts.now ++ rest) ≡
+        map pred_tree helpers.new.items ++ helpers_of (own_name naming.now.prefix) count rest) }
 {
     let mut count = before;
     for part in parts {
@@ -87,8 +93,13 @@ fn lower_part(
     preds: &mut Vec<CorePred>,
     helpers: &mut Vec<CorePred>,
 ) -> Result<(), AllocError>
-    ensures preds { IfOk result (λ _. (rest : List Lowering) → lowered_behind (map pred_tree preds.old.items) (cons_option (written_clause (own_name from.entry.naming.now.prefix) from.entry.count (index_of part.now.decl) (part_tree part.now).clause) rest) ≡ lowered_behind (map pred_tree preds.new.items) rest) }
-    ensures helpers { IfOk result (λ _. map pred_tree helpers.new.items ≡ map pred_tree helpers.old.items ++ clause_helpers (own_name from.entry.naming.now.prefix) from.entry.count (part_tree part.now).clause) }
+    ensures preds { IfOk result (λ _. (rest : List Lowering) →
+        lowered_behind (map pred_tree preds.old.items)
+        (cons_option (written_clause (own_name from.entry.naming.now.prefix) from.entry.count (index_of part.now.decl)
+        (part_tree part.now).clause) rest) ≡ lowered_behind (map pred_tree preds.new.items) rest) }
+    ensures helpers { IfOk result (λ _. map pred_tree helpers.new.items ≡
+        map pred_tree helpers.old.items ++ clause_helpers (own_name from.entry.naming.now.prefix) from.entry.count
+        (part_tree part.now).clause) }
 {
     match &part.clause {
         Some(Clause::Rule(rule)) => add_rule(alloc, from, rule, preds, helpers),
@@ -112,8 +123,13 @@ fn add_rule(
     preds: &mut Vec<CorePred>,
     helpers: &mut Vec<CorePred>,
 ) -> Result<(), AllocError>
-    ensures preds { IfOk result (λ _. (rest : List Lowering) → lowered_behind (map pred_tree preds.old.items) (cons_option (written_clause (own_name from.entry.naming.now.prefix) from.entry.count None (Some (tree.rule (tree.rule_tree rule.now)))) rest) ≡ lowered_behind (map pred_tree preds.new.items) rest) }
-    ensures helpers { IfOk result (λ _. map pred_tree helpers.new.items ≡ map pred_tree helpers.old.items ++ rule_helpers (own_name from.entry.naming.now.prefix) from.entry.count (tree.rule_tree rule.now)) }
+    ensures preds { IfOk result (λ _. (rest : List Lowering) →
+        lowered_behind (map pred_tree preds.old.items)
+        (cons_option (written_clause (own_name from.entry.naming.now.prefix) from.entry.count None
+        (Some (tree.rule (tree.rule_tree rule.now)))) rest) ≡ lowered_behind (map pred_tree preds.new.items) rest) }
+    ensures helpers { IfOk result (λ _. map pred_tree helpers.new.items ≡
+        map pred_tree helpers.old.items ++ rule_helpers (own_name from.entry.naming.now.prefix) from.entry.count
+        (tree.rule_tree rule.now)) }
 {
     let named = signature(&rule.head, false)?;
     let clause = lower_rule(alloc, from, rule, helpers)?;
@@ -129,8 +145,13 @@ fn add_function(
     preds: &mut Vec<CorePred>,
     helpers: &mut Vec<CorePred>,
 ) -> Result<(), AllocError>
-    ensures preds { IfOk result (λ _. (rest : List Lowering) → lowered_behind (map pred_tree preds.old.items) (cons_option (written_clause (own_name from.entry.naming.now.prefix) from.entry.count None (Some (tree.function (tree.function_tree function.now)))) rest) ≡ lowered_behind (map pred_tree preds.new.items) rest) }
-    ensures helpers { IfOk result (λ _. map pred_tree helpers.new.items ≡ map pred_tree helpers.old.items ++ function_helpers (own_name from.entry.naming.now.prefix) from.entry.count (tree.function_tree function.now)) }
+    ensures preds { IfOk result (λ _. (rest : List Lowering) →
+        lowered_behind (map pred_tree preds.old.items)
+        (cons_option (written_clause (own_name from.entry.naming.now.prefix) from.entry.count None
+        (Some (tree.function (tree.function_tree function.now)))) rest) ≡ lowered_behind (map pred_tree preds.new.items) rest) }
+    ensures helpers { IfOk result (λ _. map pred_tree helpers.new.items ≡
+        map pred_tree helpers.old.items ++ function_helpers (own_name from.entry.naming.now.prefix) from.entry.count
+        (tree.function_tree function.now)) }
 {
     let named = signature(&function.head, true)?;
     let clause = lower_function(alloc, from, function, helpers)?;
@@ -157,7 +178,15 @@ fn add_clause(
     modes: Option<&ModeLists>,
     clause: CoreClause,
 ) -> Result<(), AllocError>
-    ensures { IfOk result (λ _. (rest : List Lowering) → lowered_behind (map pred_tree preds.old.items) (record { is_function = named.entry.function; head = record { name = named.entry.name.now; arity = named.entry.arity }; modes = option_copied modes.entry; clause = clause_tree clause } ∷ rest) ≡ lowered_behind (map pred_tree preds.new.items) rest) }
+    ensures { IfOk result (λ _. (rest : List Lowering) →
+        lowered_behind (map pred_tree preds.old.items)
+        (record {
+          is_function = named.entry.function;
+          head = record { name = named.entry.name.now; arity = named.entry.arity };
+          modes = option_copied modes.entry;
+          clause = clause_tree clause;
+        } ∷ rest) ≡
+        lowered_behind (map pred_tree preds.new.items) rest) }
 {
     let Some(last) = preds.pop() else {
         return begin(alloc, preds, named, modes, clause);
@@ -171,7 +200,8 @@ fn add_clause(
 
 /// Whether the predicate or function is what a head names.
 fn is_of(pred: &CorePred, named: Named<'_>) -> bool
-    ensures { result ≡ is_clause_named (pred_tree pred.now) named.entry.function (record { name = named.entry.name.now; arity = named.entry.arity }) }
+    ensures { result ≡ is_clause_named (pred_tree pred.now) named.entry.function
+        (record { name = named.entry.name.now; arity = named.entry.arity }) }
 {
     named.function == pred.function && named.name == pred.name.as_str() && named.arity == pred.arity
 }
@@ -184,7 +214,13 @@ fn begin(
     modes: Option<&ModeLists>,
     clause: CoreClause,
 ) -> Result<(), AllocError>
-    ensures { IfOk result (λ _. map pred_tree preds.new.items ≡ map pred_tree preds.old.items ++ with_first (record { is_function = named.entry.function; head = record { name = named.entry.name.now; arity = named.entry.arity }; modes = option_copied modes.entry; clause = clause_tree clause }) ∷ []) }
+    ensures { IfOk result (λ _. map pred_tree preds.new.items ≡
+        map pred_tree preds.old.items ++ with_first (record {
+          is_function = named.entry.function;
+          head = record { name = named.entry.name.now; arity = named.entry.arity };
+          modes = option_copied modes.entry;
+          clause = clause_tree clause;
+        }) ∷ []) }
 {
     let made = new_pred(alloc, named, modes, clause)?;
     preds.push(made)?;
@@ -193,7 +229,8 @@ fn begin(
 
 /// Adds a predicate or function with one more clause.
 fn go_on(preds: &mut Vec<CorePred>, pred: CorePred, clause: CoreClause) -> Result<(), AllocError>
-    ensures { IfOk result (λ _. map pred_tree preds.new.items ≡ map pred_tree preds.old.items ++ with_next (pred_tree pred) (clause_tree clause) ∷ []) }
+    ensures { IfOk result (λ _. map pred_tree preds.new.items ≡
+        map pred_tree preds.old.items ++ with_next (pred_tree pred) (clause_tree clause) ∷ []) }
 {
     let more = one_more(pred, clause)?;
     preds.push(more)?;
@@ -207,7 +244,13 @@ fn new_pred(
     modes: Option<&ModeLists>,
     clause: CoreClause,
 ) -> Result<CorePred, AllocError>
-    ensures { IfOk result (λ made. pred_tree made ≡ with_first (record { is_function = named.entry.function; head = record { name = named.entry.name.now; arity = named.entry.arity }; modes = option_copied modes.entry; clause = clause_tree clause })) }
+    ensures { IfOk result (λ made. pred_tree made ≡
+        with_first (record {
+          is_function = named.entry.function;
+          head = record { name = named.entry.name.now; arity = named.entry.arity };
+          modes = option_copied modes.entry;
+          clause = clause_tree clause;
+        })) }
 {
     let decl = declared(alloc, modes)?;
     let mut clauses = CoreClauses::new(alloc);
@@ -259,7 +302,8 @@ fn one_more(pred: CorePred, clause: CoreClause) -> Result<CorePred, AllocError>
 /// The name that a head gives, and its number of arguments.
 #[tactic(auto, unfolding(pi_syntax::specs::ExpTree::exp_tree))]
 fn signature(head: &Exp, function: bool) -> Result<Named<'_>, AllocError>
-    ensures named { IfOk result (λ named. named_by (signature_of (exp_tree head.now)) ≡ record { name = named.name.now; arity = named.arity }) }
+    ensures named { IfOk result (λ named. named_by (signature_of (exp_tree head.now)) ≡
+        record { name = named.name.now; arity = named.arity }) }
     ensures function { IfOk result (λ named. named.function ≡ function) }
 {
     match head {

@@ -2,18 +2,18 @@
 ghost use Rattle.std.specs.Prelude.{◌≡◌, map, IfOk};
 ghost use Rattle.pi_syntax.specs.ExpTree.{exp_tree};
 ghost use Rattle.pi_core.specs.CoreTree.{pred_tree, query_tree};
-ghost use Rattle.pi_lowered.specs.Slots.{named_slots, slots_behind};
-ghost use Rattle.pi_lowered.specs.Programs.{core_query};
-ghost use Rattle.pi_slots.specs.Indexed.{names_in};
-ghost use Rattle.pi_sites.specs.OwnNames.{own_name};
+ghost use Rattle.pi_rewrite_spec.specs.Slots.{named_slots, slots_behind};
+ghost use Rattle.pi_rewrite_spec.specs.Programs.{core_query};
+ghost use Rattle.pi_rewrite_slots.specs.Indexed.{names_in};
+ghost use Rattle.pi_rewrite_sites.specs.OwnNames.{own_name};
 ghost use Rattle.pi_rewrite.specs.Built.{query_prefix};
 
 use crate::goals::lower_body;
 use crate::naming::query_naming;
 use crate::telling::told_names;
 use pi_core::{CorePred, CorePreds, CoreQuery, NameSlot, NameSlots};
-use pi_sites::Site;
-use pi_slots::Slots;
+use pi_rewrite_sites::Site;
+use pi_rewrite_slots::Slots;
 use pi_syntax::Exp;
 use pi_terms::Text;
 use std::alloc::{AllocError, Global};

@@ -1,11 +1,11 @@
 //! The names that an answer of a goal tells.
 ghost use Rattle.std.specs.Prelude.{◌≡◌, [], IfOk};
 ghost use Rattle.pi_syntax.specs.ExpTree.{exp_tree};
-ghost use Rattle.pi_meaning.specs.Telling.{is_hidden as is_hidden_name, one_more, told_behind};
-ghost use Rattle.pi_meaning.specs.RunOverNames.{answer_names};
-ghost use Rattle.pi_slots.specs.Indexed.{names_in};
+ghost use Rattle.pi_meaning.specs.OverNames.Telling.{is_hidden as is_hidden_name, one_more, told_behind};
+ghost use Rattle.pi_meaning.specs.OverNames.Run.{answer_names};
+ghost use Rattle.pi_rewrite_slots.specs.Indexed.{names_in};
 
-use pi_sites::{is_among, push_names};
+use pi_rewrite_sites::{is_among, push_names};
 use pi_syntax::Exp;
 use std::alloc::{AllocError, Global};
 

@@ -7,7 +7,7 @@ use Rattle.pi_terms.specs.Tree.{var}
 use Rattle.pi_constraints.specs.declared.domain.Span.{Span}
 use Rattle.pi_constraints.specs.Domain.{IsDomain, has_value, values_of, size_of}
 use Rattle.pi_constraints.proofs.DomainLemmas.{values_lie_in_spans}
-use Rattle.pi_filters.specs.Ends.{least_of, greatest_of}
+use Rattle.pi_prop_spec.specs.Ends.{least_of, greatest_of}
 use Rattle.pi_constraints.specs.State.{State, Variable, free, within, bound, binding, bindings, next, domain_in, domain_of, followed, IsVariable, IsState}
 use Rattle.pi_constraints.proofs.FollowLemmas.{followed_itself}
 use Rattle.pi_constraints.proofs.StateLemmas.{variable, held_is, state_variable}

@@ -14,7 +14,7 @@ use Rattle.pi_constraints.specs.Domain.{IsWithinBounds, AscendFrom, IsDomain, ha
 use Rattle.pi_constraints.proofs.SpanLemmas.{AscendFrom-lower}
 use Rattle.pi_constraints.proofs.DomainLemmas.{values_are_within_bounds}
 use Rattle.pi_constraints.proofs.CommonLemmas.{no_value, first_value, one_value}
-use Rattle.pi_filters.specs.Solutions.{value_of}
+use Rattle.pi_prop_spec.specs.Solutions.{value_of}
 use Rattle.pi_constraints.specs.State.{State, Variable, within, bound, binding, bindings, next, domain_of, with_variable, with_binding, with_domain, IsState}
 use Rattle.pi_constraints.proofs.StateLemmas.{held_is, changed_here, same_or_not, domain_here, domain_elsewhere, domain_bindings, domain_unbound, domain_good, held_here, held_elsewhere}
 use Rattle.pi_constraints.proofs.RootLemmas.{value_int}

@@ -10,7 +10,7 @@ use Rattle.pi_constraints.specs.declared.constraint.Item.{Item}
 use Rattle.pi_constraints.specs.declared.domain.Span.{Span}
 use Rattle.pi_constraints.specs.Domain.{IsWithinBounds, has_value}
 use Rattle.pi_constraints.proofs.DomainLemmas.{values_are_within_bounds}
-use Rattle.pi_filters.specs.Places.{places_of}
+use Rattle.pi_prop_spec.specs.Places.{places_of}
 use Rattle.pi_constraints.specs.State.{State, Agent, Variable, free, within, binding, bindings, next, domain_in, domain_of, SpeaksBelow, WatchBelow, IsVariable, MayPost, IsActivation, IsState}
 use Rattle.pi_constraints.specs.declared.event.Activation.{Activation}
 use Rattle.pi_constraints.proofs.StateLemmas.{variable, held_is, state_variable, domain_good}

@@ -6,9 +6,9 @@ use Rattle.pi_constraints.specs.declared.constraint.Constraint.{Constraint}
 use Rattle.pi_constraints.specs.declared.constraint.Item.{Item}
 use Rattle.pi_constraints.specs.declared.domain.Span.{Span}
 use Rattle.pi_constraints.specs.Domain.{IsDomain, has_value}
-use Rattle.pi_filters.specs.Places.{places_of, domain_at}
-use Rattle.pi_filters.specs.Solutions.{value_of, value_at}
-use Rattle.pi_filters.specs.Laws.{AreDomainsOf}
+use Rattle.pi_prop_spec.specs.Places.{places_of, domain_at}
+use Rattle.pi_prop_spec.specs.Solutions.{value_of, value_at}
+use Rattle.pi_prop_spec.specs.Laws.{AreDomainsOf}
 use Rattle.pi_constraints.specs.State.{State}
 use Rattle.pi_settling.specs.Roots.{root_item, Counts, by_place}
 use Rattle.pi_settling.specs.Stable.{Domains, at_places}

@@ -6,7 +6,7 @@ use Rattle.pi_terms.specs.Copy.{copy}
 use Rattle.pi_constraints.specs.declared.constraint.Item.{Item}
 use Rattle.pi_constraints.specs.declared.constraint.Rel.{Rel}
 use Rattle.pi_constraints.specs.declared.constraint.Constraint.{Constraint}
-use Rattle.pi_filters.specs.Places.{sum_places}
+use Rattle.pi_prop_spec.specs.Places.{sum_places}
 use Rattle.pi_constraints.specs.Value.{value, rounds}
 use Rattle.pi_constraints.specs.State.{State, Variable, free, within, bound, followed_for, followed}
 use Rattle.pi_constraints.specs.Evaluation.{with_new_variables}
@@ -15,11 +15,11 @@ use Rattle.pi_effects.specs.Exception.{exception_with}
 use Rattle.pi_settling.specs.Roots.{all_values}
 use Rattle.pi_settling.specs.Confined.{confined}
 use Rattle.pi_settling.specs.Reading.{reads}
-use Rattle.pi_filters.specs.Terms.{operand_of, operands_of, operands_of_array, operands_of_list, comparison_named, connective_named, boolean_of, goal_of}
-use Rattle.pi_filters.specs.PostingSums.{with_term, with_terms, scaled_terms}
-use Rattle.pi_filters.specs.Steps.{have_128_bits, read_operand, read_items}
-use Rattle.pi_filters.specs.Relations.{read_relation}
-use Rattle.pi_filters.specs.Limits.{are_narrow, are_values, first_refusal}
+use Rattle.pi_prop_spec.specs.Terms.{operand_of, operands_of, operands_of_array, operands_of_list, comparison_named, connective_named, boolean_of, goal_of}
+use Rattle.pi_prop_spec.specs.PostingSums.{with_term, with_terms, scaled_terms}
+use Rattle.pi_prop_spec.specs.Steps.{have_128_bits, read_operand, read_items}
+use Rattle.pi_prop_spec.specs.Relations.{read_relation}
+use Rattle.pi_prop_spec.specs.Limits.{are_narrow, are_values, first_refusal}
 use Rattle.pi_settling.specs.Posted.{with_constraints, places_of_all, posting_goal}
 use Rattle.pi_settling.specs.Read.{operand_in}
 

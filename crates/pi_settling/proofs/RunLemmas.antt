@@ -6,10 +6,10 @@ use Rattle.pi_terms.specs.Tree.{Tree, int}
 use Rattle.pi_constraints.specs.declared.constraint.Constraint.{Constraint}
 use Rattle.pi_constraints.specs.declared.constraint.Item.{Item}
 use Rattle.pi_constraints.specs.Domain.{IsDomain, has_value}
-use Rattle.pi_filters.specs.Places.{places_of}
-use Rattle.pi_filters.specs.Filter.{Leaves}
-use Rattle.pi_filters.specs.Laws.{AreDomainsOf}
-use Rattle.pi_filters.proofs.FilterLemmas.{filters_are_monotone}
+use Rattle.pi_prop_spec.specs.Places.{places_of}
+use Rattle.pi_prop_spec.specs.Filter.{Leaves}
+use Rattle.pi_prop_spec.specs.Laws.{AreDomainsOf}
+use Rattle.pi_prop_spec.proofs.FilterLemmas.{filters_are_monotone}
 use Rattle.pi_constraints.specs.State.{State, Variable, free, within, bound, binding, next, domain_in, domain_of, IsState}
 use Rattle.pi_constraints.proofs.StateLemmas.{variable, domain_good}
 use Rattle.pi_settling.specs.Roots.{root_item, only, domain_or_all, given, Counts, by_domain, by_place}

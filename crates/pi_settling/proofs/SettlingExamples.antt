@@ -6,8 +6,8 @@ use Rattle.pi_constraints.specs.declared.constraint.Constraint.{Constraint}
 use Rattle.pi_constraints.specs.declared.constraint.Item.{Item}
 use Rattle.pi_constraints.specs.declared.domain.Span.{Span}
 use Rattle.pi_constraints.specs.Domain.{has_value, numbers_from, values_of}
-use Rattle.pi_filters.specs.Ends.{greatest_of}
-use Rattle.pi_filters.specs.Places.{sum_places}
+use Rattle.pi_prop_spec.specs.Ends.{greatest_of}
+use Rattle.pi_prop_spec.specs.Places.{sum_places}
 use Rattle.pi_constraints.specs.State.{State, Agent, Variable, free, within, bound, on_ins, on_dom, followed_for, followed, with_waiting}
 use Rattle.pi_constraints.specs.declared.event.Event.{Event}
 use Rattle.pi_constraints.specs.declared.event.Activation.{Activation}

@@ -9,7 +9,7 @@ use Rattle.pi_constraints.specs.declared.constraint.Item.{Item}
 use Rattle.pi_constraints.specs.declared.domain.Span.{Span}
 use Rattle.pi_constraints.specs.Domain.{IsWithinBounds, has_value}
 use Rattle.pi_constraints.proofs.DomainLemmas.{values_are_within_bounds}
-use Rattle.pi_filters.specs.Solutions.{value_of}
+use Rattle.pi_prop_spec.specs.Solutions.{value_of}
 use Rattle.pi_constraints.specs.Value.{value, IsAcyclic}
 use Rattle.pi_constraints.specs.State.{State, Variable, within, binding, bindings, next, domain_in, followed, IsState}
 use Rattle.pi_constraints.proofs.FollowLemmas.{followed_value, followed_unbound}

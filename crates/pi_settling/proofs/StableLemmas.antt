@@ -8,11 +8,11 @@ use Rattle.pi_constraints.specs.declared.constraint.Item.{Item}
 use Rattle.pi_constraints.specs.declared.domain.Span.{Span}
 use Rattle.pi_constraints.specs.declared.domain.TheConstants.{MAX_VALUE}
 use Rattle.pi_constraints.specs.Domain.{IsWithinBounds, AscendFrom, IsDomain, has_value}
-use Rattle.pi_filters.specs.Places.{places_of, domain_at}
-use Rattle.pi_filters.specs.Filter.{Leaves}
-use Rattle.pi_filters.specs.Solutions.{value_of, value_at}
-use Rattle.pi_filters.specs.Laws.{AreWithin}
-use Rattle.pi_filters.proofs.FilterLemmas.{filters_are_monotone, filters_keep_solutions}
+use Rattle.pi_prop_spec.specs.Places.{places_of, domain_at}
+use Rattle.pi_prop_spec.specs.Filter.{Leaves}
+use Rattle.pi_prop_spec.specs.Solutions.{value_of, value_at}
+use Rattle.pi_prop_spec.specs.Laws.{AreWithin}
+use Rattle.pi_prop_spec.proofs.FilterLemmas.{filters_are_monotone, filters_keep_solutions}
 use Rattle.pi_constraints.specs.State.{State}
 use Rattle.pi_settling.specs.Roots.{root_item, only, given, Counts}
 use Rattle.pi_settling.specs.Stable.{Domains, at_places, LieBelow, NoFilterChanges, Stays}

@@ -10,8 +10,8 @@ use Rattle.pi_constraints.specs.declared.constraint.Item.{Item}
 use Rattle.pi_constraints.specs.declared.domain.Span.{Span}
 use Rattle.pi_constraints.specs.Domain.{IsWithinBounds, AscendFrom, IsDomain, has_value, size_of}
 use Rattle.pi_constraints.proofs.DomainLemmas.{values_are_within_bounds}
-use Rattle.pi_filters.specs.Places.{places_of, domain_at}
-use Rattle.pi_filters.specs.Filter.{Leaves}
+use Rattle.pi_prop_spec.specs.Places.{places_of, domain_at}
+use Rattle.pi_prop_spec.specs.Filter.{Leaves}
 use Rattle.pi_constraints.specs.Value.{Bindings, IsAcyclic, value}
 use Rattle.pi_constraints.specs.State.{State, Variable, free, within, bound, binding, bindings, next, domain_in, domain_of, IsState}
 use Rattle.pi_constraints.proofs.FollowLemmas.{followed_itself}

@@ -8,7 +8,7 @@ use Rattle.pi_constraints.specs.declared.constraint.Item.{Item}
 use Rattle.pi_constraints.specs.declared.domain.Span.{Span}
 use Rattle.pi_constraints.specs.declared.domain.TheConstants.{MAX_VALUE}
 use Rattle.pi_constraints.specs.Domain.{values_of, size_of, common}
-use Rattle.pi_filters.specs.Ends.{least_of, greatest_of}
+use Rattle.pi_prop_spec.specs.Ends.{least_of, greatest_of}
 use Rattle.pi_constraints.specs.State.{State, domain_of, with_binding, with_domain}
 use Rattle.pi_settling.specs.Roots.{root_item}
 use Rattle.pi_settling.specs.Options.{VariableWord, forward, backward, ff, ValueWord, up, down, split, reverse_split}

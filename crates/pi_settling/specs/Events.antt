@@ -6,7 +6,7 @@ use Rattle.pi_terms.specs.Tree.{Tree, var, int, atom, comp}
 use Rattle.pi_constraints.specs.declared.constraint.Item.{Item}
 use Rattle.pi_constraints.specs.declared.domain.Span.{Span}
 use Rattle.pi_constraints.specs.Domain.{has_value, values_of, size_of}
-use Rattle.pi_filters.specs.Ends.{least_of, greatest_of}
+use Rattle.pi_prop_spec.specs.Ends.{least_of, greatest_of}
 use Rattle.pi_constraints.specs.State.{State, Variable, free, within, bound, bindings, domain_of, followed}
 use Rattle.pi_constraints.specs.declared.event.Event.{Event}
 use Rattle.pi_settling.specs.Roots.{root_item, only}

@@ -4,13 +4,13 @@ use Rattle.std.specs.Prelude.{List, [], ◌∷◌, ◌++◌, Result, Ok, Err}
 use Rattle.pi_terms.specs.Tree.{Tree}
 use Rattle.pi_constraints.specs.declared.constraint.Constraint.{Constraint}
 use Rattle.pi_constraints.specs.declared.constraint.Item.{Item}
-use Rattle.pi_filters.specs.Places.{places_of}
+use Rattle.pi_prop_spec.specs.Places.{places_of}
 use Rattle.pi_constraints.specs.State.{State, with_constraint}
 use Rattle.pi_constraints.specs.Evaluation.{with_new_variables}
 use Rattle.pi_effects.specs.Effect.{Effect, Succeeds, Raises}
 use Rattle.pi_settling.specs.Confined.{confined}
-use Rattle.pi_filters.specs.Steps.{Refusal}
-use Rattle.pi_filters.specs.Postings.{Posting, posting_in, raised_by}
+use Rattle.pi_prop_spec.specs.Steps.{Refusal}
+use Rattle.pi_prop_spec.specs.Postings.{Posting, posting_in, raised_by}
 
 -- more constraints, in this order
 unfoldable pub with_constraints : List Constraint → State → State

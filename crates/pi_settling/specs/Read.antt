@@ -4,12 +4,12 @@ use Rattle.std.specs.Prelude.{ℕ, List, Result, Ok, Err}
 use Rattle.pi_terms.specs.Tree.{Tree, comp, no_trees, tree}
 use Rattle.pi_constraints.specs.Value.{value}
 use Rattle.pi_constraints.specs.State.{State, bindings, next}
-use Rattle.pi_meaning.specs.Trace.{Trace, end, Raise, one}
+use Rattle.pi_meaning.specs.Traces.Trace.{Trace, end, Raise, one}
 use Rattle.pi_settling.specs.Reading.{Reading, Operand, reads, refuses}
-use Rattle.pi_filters.specs.Terms.{operand_of}
-use Rattle.pi_filters.specs.PostingSums.{Sum}
-use Rattle.pi_filters.specs.Steps.{Refusal, Known, read_operand}
-use Rattle.pi_filters.specs.Postings.{Posting, posting_in, raised_by, nothing_made, finished}
+use Rattle.pi_prop_spec.specs.Terms.{operand_of}
+use Rattle.pi_prop_spec.specs.PostingSums.{Sum}
+use Rattle.pi_prop_spec.specs.Steps.{Refusal, Known, read_operand}
+use Rattle.pi_prop_spec.specs.Postings.{Posting, posting_in, raised_by, nothing_made, finished}
 use Rattle.pi_settling.specs.Posted.{posted_in}
 
 -- an operand by itself is judged as a goal is: steps and operands first, then the finished constraints

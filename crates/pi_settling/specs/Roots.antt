@@ -6,7 +6,7 @@ use Rattle.pi_constraints.specs.declared.constraint.Constraint.{Constraint}
 use Rattle.pi_constraints.specs.declared.constraint.Item.{Item}
 use Rattle.pi_constraints.specs.declared.domain.Span.{Span}
 use Rattle.pi_constraints.specs.declared.domain.TheConstants.{MAX_VALUE}
-use Rattle.pi_filters.specs.Places.{places_of}
+use Rattle.pi_prop_spec.specs.Places.{places_of}
 use Rattle.pi_constraints.specs.State.{State, bindings, domain_of, followed}
 
 -- A variable whose bindings lead to this term: the unbound variable or the integer that it comes to. One that leads to an atom or a compound is left as

@@ -4,7 +4,7 @@ use Rattle.pi_terms.specs.Tree.{Tree, var, int, atom, comp}
 use Rattle.pi_terms.specs.Places.{held}
 use Rattle.pi_terms.specs.Variables.{firsts}
 use Rattle.pi_constraints.specs.declared.constraint.Item.{Item}
-use Rattle.pi_filters.specs.Places.{places_of}
+use Rattle.pi_prop_spec.specs.Places.{places_of}
 use Rattle.pi_constraints.specs.Value.{Bindings}
 use Rattle.pi_constraints.specs.State.{State, bindings}
 use Rattle.pi_settling.specs.Load.{count_values}

@@ -5,8 +5,8 @@ use Rattle.pi_terms.specs.Places.{held}
 use Rattle.pi_constraints.specs.declared.constraint.Rel.{Rel}
 use Rattle.pi_constraints.specs.declared.constraint.Item.{Item}
 use Rattle.pi_constraints.specs.declared.constraint.Constraint.{Constraint}
-use Rattle.pi_filters.specs.Places.{places_of, sum_places}
-use Rattle.pi_meaning.specs.Trace.{Trace, Done, one, answers, end_of}
+use Rattle.pi_prop_spec.specs.Places.{places_of, sum_places}
+use Rattle.pi_meaning.specs.Traces.Trace.{Trace, Done, one, answers, end_of}
 use Rattle.pi_constraints.specs.State.{State, bindings, next, SpeaksBelow, IsState}
 use Rattle.pi_settling.specs.Roots.{root_item}
 use Rattle.pi_settling.specs.Stable.{IsStable}

@@ -3,7 +3,7 @@ use Rattle.std.specs.Prelude.{◌≡◌, ℕ, ℤ, IsTrue, Contains}
 use Rattle.pi_constraints.specs.declared.constraint.Constraint.{Constraint}
 use Rattle.pi_constraints.specs.declared.constraint.Item.{Item}
 use Rattle.pi_constraints.specs.Domain.{IsWithinBounds, has_value}
-use Rattle.pi_filters.specs.Solutions.{value_of, Holds}
+use Rattle.pi_prop_spec.specs.Solutions.{value_of, Holds}
 use Rattle.pi_constraints.specs.State.{State}
 use Rattle.pi_settling.specs.Roots.{root_item, given, Counts}
 

@@ -5,8 +5,8 @@ use Rattle.pi_core.specs.CoreTree.{PredTree, QueryTree}
 use Rattle.pi_core.specs.declared.log.Work.{Work}
 use Rattle.pi_meaning.specs.declared.happening.Budget.{Budget}
 use Rattle.pi_meaning.specs.declared.happening.Mode.{Mode}
-use Rattle.pi_meaning.specs.Budget.{IsWithin}
-use Rattle.pi_meaning.specs.Built.{IsRunnable}
+use Rattle.pi_meaning.specs.Machine.Budget.{IsWithin}
+use Rattle.pi_meaning.specs.Machine.Built.{IsRunnable}
 use Rattle.pi_engine.specs.Seen.{MachineView, mode_of}
 use Rattle.pi_top.specs.declared.manner.Manner.{Manner}
 use Rattle.pi_top.specs.declared.runs.QueryRun.{QueryRun}

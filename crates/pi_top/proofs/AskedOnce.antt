@@ -2,7 +2,7 @@
 use Rattle.std.proofs.Common.{◌≡◌, ℕ, List, sym, ap, ◌∙◌, true≢false}
 use Rattle.pi_syntax.specs.ExpTree.{ExpTree}
 use Rattle.pi_syntax.specs.ProgramTree.{ProgramTree}
-use Rattle.pi_sound.specs.Built.{unbuilt_part, is_built_goal}
+use Rattle.pi_rewrite_sound.specs.Built.{unbuilt_part, is_built_goal}
 use Rattle.pi_top.specs.Asking.{IsReady, IsUnready, AsksOf, RefusesOf}
 use Rattle.pi_top.specs.FaultLines.{not_built_line, of_program, of_goal}
 use Rattle.pi_top.proofs.Judging.{AreOne, none-some, some-in, one-program, program-no-line, one-program-line, one-goal, goal-no-line, one-goal-line}

@@ -4,9 +4,9 @@ use Rattle.pi_top.specs.Demo.{demo_program}
 use Rattle.pi_outside.specs.Held.{Holding}
 use Rattle.pi_core.specs.declared.log.LogEntry.{LogEntry}
 use Rattle.pi_top.specs.declared.runs.QueryRun.{QueryRun}
-use Rattle.pi_words.specs.declared.run_mode.RunMode.{RunMode}
-use Rattle.pi_words.specs.declared.run_mode.RunMode.TheVariants.{Query, Run, Session, Print, Demo}
-use Rattle.pi_words.specs.declared.asked.Options.{Options}
+use Rattle.pi_top_words.specs.declared.run_mode.RunMode.{RunMode}
+use Rattle.pi_top_words.specs.declared.run_mode.RunMode.TheVariants.{Query, Run, Session, Print, Demo}
+use Rattle.pi_top_words.specs.declared.asked.Options.{Options}
 use Rattle.pi_top.specs.Completeness.{NothingFails, IsText, IsComplete, IsPrinted, CompletesIn, Completes}
 use Rattle.pi_top.specs.Ends.{Ends, all_written, write_failed, memory_wanted}
 use Rattle.pi_top.specs.Faults.{FaultCount, Rises}

@@ -10,9 +10,9 @@ use Rattle.pi_top.specs.declared.manner.Manner.{Manner}
 use Rattle.pi_top.specs.declared.runs.QueryRun.{QueryRun}
 use Rattle.pi_top.specs.declared.query.Stop.{Stop}
 use Rattle.pi_top.specs.declared.query.Stop.TheVariants.{Memory, Write}
-use Rattle.pi_words.specs.declared.run_mode.RunMode.{RunMode}
-use Rattle.pi_words.specs.declared.run_mode.RunMode.TheVariants.{Query, Run, Session, Print, Demo}
-use Rattle.pi_words.specs.declared.asked.Options.{Options}
+use Rattle.pi_top_words.specs.declared.run_mode.RunMode.{RunMode}
+use Rattle.pi_top_words.specs.declared.run_mode.RunMode.TheVariants.{Query, Run, Session, Print, Demo}
+use Rattle.pi_top_words.specs.declared.asked.Options.{Options}
 use Rattle.pi_top.specs.CutOff.{CutFile, CutMade, CutLine, CutIn, CutBy}
 use Rattle.pi_top.specs.CutOff as cut
 use Rattle.pi_top.specs.Ends.{Ends, all_written, write_failed, memory_wanted, AnswersBy, GivesStatus}
@@ -24,7 +24,7 @@ use Rattle.pi_top.specs.Manner.{manner_of, goal_of}
 use Rattle.pi_top.specs.QueryEnd.{QueryEnd, Stopped, NoMore, No, Exception, StepsSpent, status_of}
 use Rattle.pi_top.specs.Statuses.{ComesText, ComesPrinted, ComesOf, ComesFile, ComesMade, ComesIn, ComesBy}
 use Rattle.pi_top.specs.Statuses as whole
-use Rattle.pi_words.specs.Words.{options}
+use Rattle.pi_top_words.specs.Words.{options}
 use Rattle.pi_outside.specs.declared.failed.Failed.{Failed}
 
 -- what was answered, and then its status: the sink's count between both is that behind the first

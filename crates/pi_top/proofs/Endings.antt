@@ -6,14 +6,14 @@ use Rattle.pi_outside.specs.Writes.{SinkWrite}
 use Rattle.pi_core.specs.CoreTree.{PredTree, QueryTree}
 use Rattle.pi_syntax.specs.ExpTree.{ExpTree}
 use Rattle.pi_syntax.specs.ProgramTree.{ProgramTree}
-use Rattle.pi_canonical.specs.Canonical.{canonical_text}
+use Rattle.pi_print_program.specs.Canonical.{canonical_text}
 use Rattle.pi_top.specs.declared.manner.Manner.{Manner}
 use Rattle.pi_top.specs.declared.runs.QueryRun.{QueryRun}
 use Rattle.pi_top.specs.declared.query.Stop.{Stop}
 use Rattle.pi_top.specs.declared.query.Stop.TheVariants.{Memory, Write}
-use Rattle.pi_words.specs.declared.run_mode.RunMode.{RunMode}
-use Rattle.pi_words.specs.declared.run_mode.RunMode.TheVariants.{Query, Run, Session, Print, Demo}
-use Rattle.pi_words.specs.declared.asked.Options.{Options}
+use Rattle.pi_top_words.specs.declared.run_mode.RunMode.{RunMode}
+use Rattle.pi_top_words.specs.declared.run_mode.RunMode.TheVariants.{Query, Run, Session, Print, Demo}
+use Rattle.pi_top_words.specs.declared.asked.Options.{Options}
 use Rattle.pi_top.specs.Stops.{status_of_stop}
 use Rattle.pi_top.specs.CutOff.{CutText, CutPrinted, CutFile, CutMade, CutLine, CutIn, CutBy, running, front_of}
 use Rattle.pi_top.specs.CutOff as cut
@@ -34,7 +34,7 @@ use Rattle.pi_top.specs.Statuses as whole
 use Rattle.pi_top.specs.SoleLine.{read_fault_line}
 use Rattle.pi_top.specs.Statuses.{ComesIn, IsUnread, ran, usage_line}
 use Rattle.pi_top.specs.Texts.{IsRead}
-use Rattle.pi_words.specs.Words.{options, places_of}
+use Rattle.pi_top_words.specs.Words.{options, places_of}
 use Rattle.pi_top.specs.Writing.{Writes}
 use Rattle.pi_top.proofs.OverNames.{ends-over-names, cut-over-names}
 use Rattle.pi_top.proofs.SoleLines.{line-all, line-front, is-nothing}

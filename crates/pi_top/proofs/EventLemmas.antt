@@ -1,13 +1,13 @@
 -- What events print, and how many Ticks and answers they have, where more stand behind them.
 use Rattle.std.proofs.Common.{◌≡◌, ℕ, zero, suc, ◌+◌, List, [], ◌∷◌, ◌++◌, refl, sym, ap, ◌∙◌, arith, append_assoc}
 use Rattle.std.proofs.lemmas.List.{append-nil}
-use Rattle.pi_meaning.specs.Trace.{Tick, Load, Out, Emitted, noted, answered, count_ticks}
-use Rattle.pi_meaning.specs.Run.{Solution}
-use Rattle.pi_print.specs.PrintAnswer.{answer_lines}
-use Rattle.pi_meaning.specs.Told.{answer_of}
+use Rattle.pi_meaning.specs.Traces.Trace.{Tick, Load, Out, Emitted, noted, answered, count_ticks}
+use Rattle.pi_meaning.specs.CoreMeaning.Run.{Solution}
+use Rattle.pi_print_terms.specs.PrintAnswer.{answer_lines}
+use Rattle.pi_meaning.specs.Shared.Told.{answer_of}
 use Rattle.pi_core.specs.declared.answer.Answer.{Answer}
 use Rattle.pi_core.specs.declared.core_program.NameSlot.{NameSlot}
-use Rattle.pi_meaning.specs.Next.{some_ticks}
+use Rattle.pi_meaning.specs.Machine.Next.{some_ticks}
 use Rattle.pi_top.specs.declared.manner.Lines.{Lines}
 use Rattle.pi_top.specs.Running.{print_solutions}
 use Rattle.pi_top.specs.ToldLines.{where_told}

@@ -7,17 +7,17 @@ use Rattle.pi_syntax.specs.ExpTree.{ExpTree, atom, call}
 use Rattle.pi_syntax.specs.ProgramTree.{WrittenClause, rule, function, fact, ProgramTree}
 use Rattle.pi_syntax.specs.Signature.{Signature, signature, exp_count}
 use Rattle.pi_syntax.specs.Tokens.{Token}
-use Rattle.pi_meaning.specs.Small.{defined_by, heads, Defines}
+use Rattle.pi_meaning.specs.OverNames.Small.{defined_by, heads, Defines}
 use Rattle.pi_syntax.specs.Forms.{is_form}
 use Rattle.pi_syntax.specs.Names.{kind_of}
-use Rattle.pi_clauses.specs.Calls.{Named}
-use Rattle.pi_clauses.specs.Items.{head_of, is_head}
-use Rattle.pi_clauses.specs.Operators.{is_goal_sign, is_relation, is_reified, is_membership, is_operator}
-use Rattle.pi_clauses.specs.Verdict.{a_program, JudgedPart, refused, libraries, one_clause, judged, is_built_in_signature, all_defined, parts_of, HasVerdict}
-use Rattle.pi_meaning.specs.NameLaws.{is_taken, HeadsAreFree}
-use Rattle.pi_meaning.proofs.TableLemmas.{same-name, one-of}
-use Rattle.pi_meaning.proofs.BuiltInNames.{other-names-are_free}
-use Rattle.pi_sound.proofs.FaultlessParts.{AreGood, IsFaultless, faultless}
+use Rattle.pi_prog_clauses.specs.Calls.{Named}
+use Rattle.pi_prog_clauses.specs.Items.{head_of, is_head}
+use Rattle.pi_prog_clauses.specs.Operators.{is_goal_sign, is_relation, is_reified, is_membership, is_operator}
+use Rattle.pi_prog_clauses.specs.Verdict.{a_program, JudgedPart, refused, libraries, one_clause, judged, is_built_in_signature, all_defined, parts_of, HasVerdict}
+use Rattle.pi_meaning.specs.OverNames.Laws.{is_taken, HeadsAreFree}
+use Rattle.pi_meaning.proofs.Shared.TableLemmas.{same-name, one-of}
+use Rattle.pi_meaning.proofs.OverNames.BuiltInNames.{other-names-are_free}
+use Rattle.pi_rewrite_sound.proofs.FaultlessParts.{AreGood, IsFaultless, faultless}
 
 -- ---- forms are signs of the grammar
 

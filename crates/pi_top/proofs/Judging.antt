@@ -4,8 +4,8 @@ use Rattle.pi_lex.specs.Kinds.{kinds}
 use Rattle.pi_syntax.specs.ExpTree.{ExpTree}
 use Rattle.pi_syntax.specs.ProgramTree.{ProgramTree}
 use Rattle.pi_syntax.specs.Tokens.{Token, Located, Fault, Lexes}
-use Rattle.pi_clauses.specs.GoalVerdict.{GoalVerdict, a_goal, goal_is_faulty, calls_unknown, HasGoalVerdict}
-use Rattle.pi_clauses.specs.Verdict.{Verdict, a_program, part_is_faulty, is_scattered, is_unknown, HasVerdict}
+use Rattle.pi_prog_clauses.specs.GoalVerdict.{GoalVerdict, a_goal, goal_is_faulty, calls_unknown, HasGoalVerdict}
+use Rattle.pi_prog_clauses.specs.Verdict.{Verdict, a_program, part_is_faulty, is_scattered, is_unknown, HasVerdict}
 use Rattle.pi_top.specs.FaultLines.{token_line, verdict_line, goal_verdict_line, of_program, of_goal}
 use Rattle.pi_top.specs.Judged.{unbuilt_line, OfTokens, IsTokenLine, IsProgramText, IsGoalText, HasVerdictLine, HasGoalVerdictLine, IsProgramLine, IsGoalLine, AreFaultless, Refused, program_fault, goal_fault, not_built, Asks}
 

@@ -1,8 +1,8 @@
 -- The manner in which a goal is asked, by the mode.
 use Rattle.std.proofs.Common.{◌≡◌, ◌<◌, ℕ, true, Option, None, Some, is_some, arith, refl}
-use Rattle.pi_words.specs.declared.asked.Options.{Options}
-use Rattle.pi_words.specs.declared.run_mode.RunMode.{RunMode}
-use Rattle.pi_words.specs.declared.run_mode.RunMode.TheVariants.{Query, Run, Session, Print, Demo}
+use Rattle.pi_top_words.specs.declared.asked.Options.{Options}
+use Rattle.pi_top_words.specs.declared.run_mode.RunMode.{RunMode}
+use Rattle.pi_top_words.specs.declared.run_mode.RunMode.TheVariants.{Query, Run, Session, Print, Demo}
 use Rattle.pi_top.specs.Manner.{manner_in, manner_of}
 
 steps-in : (mode : RunMode) (asked : Options) → (manner_in mode asked).steps ≡ asked.steps

@@ -6,13 +6,13 @@ use Rattle.pi_core.specs.CoreTree.{PredTree, QueryTree}
 use Rattle.pi_core.specs.declared.core_program.NameSlot.{NameSlot}
 use Rattle.pi_syntax.specs.ExpTree.{ExpTree}
 use Rattle.pi_syntax.specs.ProgramTree.{ProgramTree}
-use Rattle.pi_meaning.specs.Trace.{Done, Raise, Tick, Load, Out, Emitted, noted, answered, count_ticks}
-use Rattle.pi_meaning.specs.Depth.{Cut, Stop as CutStop, Ended, Spent}
-use Rattle.pi_meaning.specs.View.{query_view}
-use Rattle.pi_meaning.specs.Run.{Solution}
-use Rattle.pi_meaning.specs.Told.{answer_of, solution_told}
-use Rattle.pi_meaning.specs.Telling.{Told, told_event, told_cut}
-use Rattle.pi_print.specs.PrintAnswer.{answer_lines}
+use Rattle.pi_meaning.specs.Traces.Trace.{Done, Raise, Tick, Load, Out, Emitted, noted, answered, count_ticks}
+use Rattle.pi_meaning.specs.Traces.Depth.{Cut, Stop as CutStop, Ended, Spent}
+use Rattle.pi_meaning.specs.Shared.View.{query_view}
+use Rattle.pi_meaning.specs.CoreMeaning.Run.{Solution}
+use Rattle.pi_meaning.specs.Shared.Told.{answer_of, solution_told}
+use Rattle.pi_meaning.specs.OverNames.Telling.{Told, told_event, told_cut}
+use Rattle.pi_print_terms.specs.PrintAnswer.{answer_lines}
 use Rattle.pi_rewrite.specs.Laws.{RunsTheSame}
 use Rattle.pi_top.specs.declared.manner.Lines.{Lines}
 use Rattle.pi_top.specs.declared.manner.Manner.{Manner}

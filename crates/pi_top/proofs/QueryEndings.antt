@@ -3,20 +3,20 @@ use Rattle.std.specs.Prelude.{IfErr}
 use Rattle.std.proofs.Common.{◌≡◌, ◌<◌, ◌≤◌, ℕ, suc, ◌+◌, Bool, true, false, List, [], ◌∷◌, ◌++◌, Result, Ok, Err, refl, sym, subst, ◌∙◌, arith, append_assoc}
 use Rattle.std.proofs.lemmas.List.{append-nil}
 use Rattle.pi_outside.specs.Writes.{SinkWrite}
-use Rattle.pi_meaning.specs.Trace.{Done, Raise, Out, Emitted, noted, answered, count_ticks}
-use Rattle.pi_meaning.specs.Depth.{Stop as CutStop, Cut, Ended, Spent}
-use Rattle.pi_meaning.specs.View.{query_view}
+use Rattle.pi_meaning.specs.Traces.Trace.{Done, Raise, Out, Emitted, noted, answered, count_ticks}
+use Rattle.pi_meaning.specs.Traces.Depth.{Stop as CutStop, Cut, Ended, Spent}
+use Rattle.pi_meaning.specs.Shared.View.{query_view}
 use Rattle.pi_core.specs.CoreTree.{PredTree, QueryTree}
-use Rattle.pi_meaning.specs.Run.{Solution, IsRun}
-use Rattle.pi_print.specs.PrintAnswer.{answer_lines}
+use Rattle.pi_meaning.specs.CoreMeaning.Run.{Solution, IsRun}
+use Rattle.pi_print_terms.specs.PrintAnswer.{answer_lines}
 use Rattle.pi_core.specs.declared.answer.Answer.{Answer}
 use Rattle.pi_meaning.specs.declared.happening.Budget.{Budget}
 use Rattle.pi_meaning.specs.declared.happening.Happening.{Happening}
 use Rattle.pi_meaning.specs.declared.happening.Mode.{Mode}
-use Rattle.pi_meaning.specs.Budget.{IsWithin, IsInner}
-use Rattle.pi_meaning.specs.Built.{IsRunnable}
-use Rattle.pi_stands.specs.Goes.{counted}
-use Rattle.pi_meaning.specs.Next.{some_ticks}
+use Rattle.pi_meaning.specs.Machine.Budget.{IsWithin, IsInner}
+use Rattle.pi_meaning.specs.Machine.Built.{IsRunnable}
+use Rattle.pi_engine_stands.specs.Goes.{counted}
+use Rattle.pi_meaning.specs.Machine.Next.{some_ticks}
 use Rattle.pi_engine.specs.Seen.{MachineView}
 use Rattle.pi_engine.specs.Runs.{RunsTo}
 use Rattle.pi_engine.specs.Happens.{HappensByTicks}

@@ -1,21 +1,21 @@
 -- A query's run, call of `next` by call, and what is printed of it; and the list of the queries that were run.
 use Rattle.std.proofs.Common.{◌≡◌, ◌≤◌, ℕ, suc, ◌+◌, ◌-◌, List, [], ◌∷◌, ◌++◌, Result, refl, sym, ap, subst, ◌∙◌, arith, append_assoc, length, length-append, slice_set}
 use Rattle.pi_outside.specs.Writes.{SinkWrite}
-use Rattle.pi_meaning.specs.Trace.{Emitted, count_ticks}
-use Rattle.pi_meaning.specs.Depth.{Cut, with_events}
-use Rattle.pi_meaning.specs.View.{query_view}
+use Rattle.pi_meaning.specs.Traces.Trace.{Emitted, count_ticks}
+use Rattle.pi_meaning.specs.Traces.Depth.{Cut, with_events}
+use Rattle.pi_meaning.specs.Shared.View.{query_view}
 use Rattle.pi_core.specs.CoreTree.{PredTree, QueryTree}
-use Rattle.pi_meaning.specs.Run.{Solution, IsRun}
-use Rattle.pi_print.specs.PrintAnswer.{answer_lines}
+use Rattle.pi_meaning.specs.CoreMeaning.Run.{Solution, IsRun}
+use Rattle.pi_print_terms.specs.PrintAnswer.{answer_lines}
 use Rattle.pi_core.specs.declared.answer.Answer.{Answer}
 use Rattle.pi_core.specs.declared.core_program.NameSlot.{NameSlot}
-use Rattle.pi_meaning.proofs.QuietRules.{query-runs}
+use Rattle.pi_meaning.proofs.CoreMeaning.QuietRules.{query-runs}
 use Rattle.pi_meaning.specs.declared.happening.Budget.{Budget}
 use Rattle.pi_meaning.specs.declared.happening.Happening.{Happening}
 use Rattle.pi_meaning.specs.declared.happening.Mode.{Mode}
-use Rattle.pi_meaning.specs.Built.{IsRunnable}
-use Rattle.pi_stands.specs.Goes.{counted}
-use Rattle.pi_meaning.specs.Next.{some_ticks}
+use Rattle.pi_meaning.specs.Machine.Built.{IsRunnable}
+use Rattle.pi_engine_stands.specs.Goes.{counted}
+use Rattle.pi_meaning.specs.Machine.Next.{some_ticks}
 use Rattle.pi_engine.specs.Seen.{MachineView, GoesOn}
 use Rattle.pi_engine.specs.Runs.{RunsTo}
 use Rattle.pi_engine.specs.Happens.{HappensByTicks}

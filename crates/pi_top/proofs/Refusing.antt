@@ -2,14 +2,14 @@
 use Rattle.std.proofs.Common.{◌≡◌, ◌≢◌, ◌+◌, inr, ℕ, suc, List, [], ◌∷◌, ◌++◌, refl, sym, ap, subst, ◌∙◌, arith}
 use Rattle.pi_syntax.specs.ExpTree.{ExpTree}
 use Rattle.pi_syntax.specs.ProgramTree.{ProgramTree}
-use Rattle.pi_canonical.specs.Canonical.{canonical_text}
+use Rattle.pi_print_program.specs.Canonical.{canonical_text}
 use Rattle.pi_core.specs.declared.log.LogEntry.{LogEntry}
-use Rattle.pi_meaning.specs.Trace.{Done, Raise, Emitted, noted, answered, count_ticks}
-use Rattle.pi_meaning.specs.Depth.{Cut, Stop, Ended, Spent}
-use Rattle.pi_meaning.specs.View.{query_view}
-use Rattle.pi_meaning.specs.Telling.{Told}
-use Rattle.pi_meaning.specs.Stages.{no_stages}
-use Rattle.pi_meaning.proofs.GrowRules.{no-stages-add, names-runs-are-one}
+use Rattle.pi_meaning.specs.Traces.Trace.{Done, Raise, Emitted, noted, answered, count_ticks}
+use Rattle.pi_meaning.specs.Traces.Depth.{Cut, Stop, Ended, Spent}
+use Rattle.pi_meaning.specs.Shared.View.{query_view}
+use Rattle.pi_meaning.specs.OverNames.Telling.{Told}
+use Rattle.pi_meaning.specs.OverNames.Stages.{no_stages}
+use Rattle.pi_meaning.proofs.OverNames.GrowRules.{no-stages-add, names-runs-are-one}
 use Rattle.pi_top.specs.declared.runs.QueryRun.{QueryRun}
 use Rattle.pi_top.specs.declared.manner.Manner.{Manner}
 use Rattle.pi_top.specs.FaultLines.{of_program}

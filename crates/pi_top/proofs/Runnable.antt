@@ -5,8 +5,8 @@ use Rattle.std.proofs.lemmas.List.Elements.{All-head, All-tail}
 use Rattle.pi_core.specs.CoreTree.{ClauseTree, PredTree, QueryTree}
 use Rattle.pi_syntax.specs.ExpTree.{ExpTree}
 use Rattle.pi_syntax.specs.ProgramTree.{ProgramTree}
-use Rattle.pi_meaning.specs.Built.{WithoutEvents, AreOfRules, IsRunnable}
-use Rattle.pi_sound.specs.Laws.{IsPlain}
+use Rattle.pi_meaning.specs.Machine.Built.{WithoutEvents, AreOfRules, IsRunnable}
+use Rattle.pi_rewrite_sound.specs.Laws.{IsPlain}
 use Rattle.pi_rewrite.specs.Laws.{IsLowered}
 use Rattle.pi_top.specs.JudgedCode.{IsAsked}
 

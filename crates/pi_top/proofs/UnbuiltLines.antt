@@ -2,7 +2,7 @@
 use Rattle.std.proofs.Common.{◌≡◌, ℕ, Bool, true, false, if◌then◌else◌, List, Option, None, Some, sym, ap, ◌∙◌, refl}
 use Rattle.pi_syntax.specs.ExpTree.{ExpTree}
 use Rattle.pi_syntax.specs.ProgramTree.{ProgramTree}
-use Rattle.pi_sound.specs.Built.{unbuilt_part, unbuilt_goal, is_built_goal}
+use Rattle.pi_rewrite_sound.specs.Built.{unbuilt_part, unbuilt_goal, is_built_goal}
 use Rattle.pi_top.specs.FaultLines.{not_built_line, of_program, of_goal}
 use Rattle.pi_top.specs.Judged.{unbuilt_line_of, unbuilt_line}
 

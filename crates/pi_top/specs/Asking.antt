@@ -2,7 +2,7 @@
 use Rattle.std.specs.Prelude.{◌≡◌, ℕ, true, false, List, None, Some}
 use Rattle.pi_syntax.specs.ExpTree.{ExpTree}
 use Rattle.pi_syntax.specs.ProgramTree.{ProgramTree}
-use Rattle.pi_sound.specs.Built.{unbuilt_part, is_built_goal}
+use Rattle.pi_rewrite_sound.specs.Built.{unbuilt_part, is_built_goal}
 use Rattle.pi_top.specs.FaultLines.{not_built_line, of_program, of_goal}
 use Rattle.pi_top.specs.Judged.{IsProgramText, IsProgramLine, IsGoalText, IsGoalLine}
 

@@ -4,12 +4,12 @@ use Rattle.pi_outside.specs.Held.{Holding}
 use Rattle.pi_outside.specs.Writes.{SinkWrite}
 use Rattle.pi_syntax.specs.ExpTree.{ExpTree}
 use Rattle.pi_syntax.specs.ProgramTree.{ProgramTree}
-use Rattle.pi_canonical.specs.Canonical.{canonical_text}
+use Rattle.pi_print_program.specs.Canonical.{canonical_text}
 use Rattle.pi_core.specs.declared.log.LogEntry.{LogEntry}
 use Rattle.pi_top.specs.declared.runs.QueryRun.{QueryRun}
-use Rattle.pi_words.specs.declared.run_mode.RunMode.{RunMode}
-use Rattle.pi_words.specs.declared.run_mode.RunMode.TheVariants.{Print, Demo}
-use Rattle.pi_words.specs.declared.asked.Options.{Options}
+use Rattle.pi_top_words.specs.declared.run_mode.RunMode.{RunMode}
+use Rattle.pi_top_words.specs.declared.run_mode.RunMode.TheVariants.{Print, Demo}
+use Rattle.pi_top_words.specs.declared.asked.Options.{Options}
 use Rattle.pi_top.specs.Faults.{FaultCount, Rises}
 use Rattle.pi_top.specs.Judged.{IsProgramText, Asks}
 use Rattle.pi_top.specs.Manner.{manner_of, goal_of}
@@ -17,7 +17,7 @@ use Rattle.pi_top.specs.Runs.{HasRan}
 use Rattle.pi_top.specs.SoleLine.{IsLine}
 use Rattle.pi_top.specs.Handing.{Written}
 use Rattle.pi_top.specs.Texts.{IsRead}
-use Rattle.pi_words.specs.Words.{options, places_of}
+use Rattle.pi_top_words.specs.Words.{options, places_of}
 use Rattle.pi_top.specs.Ends.{AsksSession}
 use Rattle.pi_top.specs.Demo.{demo_program}
 

@@ -5,13 +5,13 @@ use Rattle.pi_outside.specs.Reads.{FileRead}
 use Rattle.pi_outside.specs.Writes.{SinkWrite}
 use Rattle.pi_syntax.specs.ExpTree.{ExpTree}
 use Rattle.pi_syntax.specs.ProgramTree.{ProgramTree}
-use Rattle.pi_canonical.specs.Canonical.{canonical_text}
+use Rattle.pi_print_program.specs.Canonical.{canonical_text}
 use Rattle.pi_core.specs.declared.log.LogEntry.{LogEntry}
 use Rattle.pi_top.specs.declared.runs.QueryRun.{QueryRun}
-use Rattle.pi_words.specs.declared.run_mode.RunMode.{RunMode}
-use Rattle.pi_words.specs.declared.run_mode.RunMode.TheVariants.{Query, Run, Print, Demo}
-use Rattle.pi_words.specs.declared.asked.Options.{Options}
-use Rattle.pi_words.specs.Words.{places_of}
+use Rattle.pi_top_words.specs.declared.run_mode.RunMode.{RunMode}
+use Rattle.pi_top_words.specs.declared.run_mode.RunMode.TheVariants.{Query, Run, Print, Demo}
+use Rattle.pi_top_words.specs.declared.asked.Options.{Options}
+use Rattle.pi_top_words.specs.Words.{places_of}
 use Rattle.pi_top.specs.Demo.{demo_program}
 use Rattle.pi_top.specs.declared.manner.Manner.{Manner}
 use Rattle.pi_top.specs.Faults.{FaultCount, Stands, Rises}

@@ -7,16 +7,16 @@ use Rattle.pi_core.specs.declared.log.LogEntry.{LogEntry}
 use Rattle.pi_top.specs.declared.runs.QueryRun.{QueryRun}
 use Rattle.pi_top.specs.declared.query.Stop.{Stop}
 use Rattle.pi_top.specs.declared.query.Stop.TheVariants.{Memory, Write}
-use Rattle.pi_words.specs.declared.run_mode.RunMode.{RunMode}
-use Rattle.pi_words.specs.declared.run_mode.RunMode.TheVariants.{Query, Run, Session, Print}
-use Rattle.pi_words.specs.declared.asked.Options.{Options}
+use Rattle.pi_top_words.specs.declared.run_mode.RunMode.{RunMode}
+use Rattle.pi_top_words.specs.declared.run_mode.RunMode.TheVariants.{Query, Run, Session, Print}
+use Rattle.pi_top_words.specs.declared.asked.Options.{Options}
 use Rattle.pi_top.specs.declared.manner.Manner.{Manner}
 use Rattle.pi_top.specs.CutOff.{CutText, CutPrinted, CutOf, CutFile, CutMade, CutBy}
 use Rattle.pi_top.specs.Faults.{FaultCount, Stands, Rises}
 use Rattle.pi_top.specs.Handing.{Written}
 use Rattle.pi_top.specs.Statuses.{ComesText, ComesPrinted, ComesOf, ComesFile, ComesMade, ComesBy}
 use Rattle.pi_top.specs.Stops.{status_of_stop, WritesMemory}
-use Rattle.pi_words.specs.Words.{options}
+use Rattle.pi_top_words.specs.Words.{options}
 
 -- By these reads and these writes, and no others, a run came to its end. All is written that there is to write, and no write failed; or one
 -- failed, and was the last, and none of the line on want of memory; or memory was wanted, and that line is written, or a front of it where

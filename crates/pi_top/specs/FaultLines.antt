@@ -4,9 +4,9 @@ use Rattle.std.specs.Prelude.{ℕ, List, ◌++◌, Option, None, Some}
 use Rattle.std.specs.Fmt.{decimal}
 use lib.Chars.{codes}
 use Rattle.pi_syntax.specs.Tokens.{Fault, TooLong, NotUtf8, BadToken, WideInteger}
-use Rattle.pi_clauses.specs.Calls.{Named}
-use Rattle.pi_clauses.specs.GoalVerdict.{GoalVerdict, a_goal, goal_is_faulty, calls_unknown}
-use Rattle.pi_clauses.specs.Verdict.{PartFault, TooDeep, BadDeclaration, BadClause, TooManyVariables, Verdict, a_program, part_is_faulty, is_scattered, is_unknown}
+use Rattle.pi_prog_clauses.specs.Calls.{Named}
+use Rattle.pi_prog_clauses.specs.GoalVerdict.{GoalVerdict, a_goal, goal_is_faulty, calls_unknown}
+use Rattle.pi_prog_clauses.specs.Verdict.{PartFault, TooDeep, BadDeclaration, BadClause, TooManyVariables, Verdict, a_program, part_is_faulty, is_scattered, is_unknown}
 
 -- of a text that has no tokens
 abbrev pub token_line : Fault → List ℕ

@@ -2,16 +2,16 @@
 -- end, where it is written. A run is that of the meaning over names, of the texts that were read.
 use Rattle.std.specs.Prelude.{◌≡◌, ◌<◌, ◌≤◌, ℕ, List, [], ◌∷◌, ◌++◌}
 use Rattle.pi_outside.specs.Writes.{SinkWrite}
-use Rattle.pi_meaning.specs.Trace.{Out, Emitted, noted, answered, count_ticks}
-use Rattle.pi_meaning.specs.Depth.{Cut}
+use Rattle.pi_meaning.specs.Traces.Trace.{Out, Emitted, noted, answered, count_ticks}
+use Rattle.pi_meaning.specs.Traces.Depth.{Cut}
 use Rattle.pi_syntax.specs.ExpTree.{ExpTree}
 use Rattle.pi_syntax.specs.ProgramTree.{ProgramTree}
-use Rattle.pi_meaning.specs.View.{query_view}
-use Rattle.pi_meaning.specs.Telling.{Told, told_answer}
-use Rattle.pi_meaning.specs.Stages.{LaterStages}
-use Rattle.pi_meaning.specs.RunOverNames.{IsNamesRun}
-use Rattle.pi_sound.specs.TermCalls.{Allows}
-use Rattle.pi_print.specs.PrintAnswer.{answer_lines}
+use Rattle.pi_meaning.specs.Shared.View.{query_view}
+use Rattle.pi_meaning.specs.OverNames.Telling.{Told, told_answer}
+use Rattle.pi_meaning.specs.OverNames.Stages.{LaterStages}
+use Rattle.pi_meaning.specs.OverNames.Run.{IsNamesRun}
+use Rattle.pi_rewrite_sound.specs.TermCalls.{Allows}
+use Rattle.pi_print_terms.specs.PrintAnswer.{answer_lines}
 use Rattle.pi_core.specs.declared.log.LogEntry.{LogEntry}
 use Rattle.pi_top.specs.declared.manner.Manner.{Manner}
 use Rattle.pi_top.specs.Handing.{HandsAll, FailsIn}

@@ -4,9 +4,9 @@ use Rattle.pi_lex.specs.Kinds.{kinds}
 use Rattle.pi_syntax.specs.ExpTree.{ExpTree}
 use Rattle.pi_syntax.specs.ProgramTree.{ProgramTree}
 use Rattle.pi_syntax.specs.Tokens.{Token, Located, Fault, HasTokens, HasFault}
-use Rattle.pi_clauses.specs.GoalVerdict.{GoalVerdict, a_goal, HasGoalVerdict}
-use Rattle.pi_clauses.specs.Verdict.{Verdict, a_program, HasVerdict}
-use Rattle.pi_sound.specs.Built.{unbuilt_part, is_built_goal}
+use Rattle.pi_prog_clauses.specs.GoalVerdict.{GoalVerdict, a_goal, HasGoalVerdict}
+use Rattle.pi_prog_clauses.specs.Verdict.{Verdict, a_program, HasVerdict}
+use Rattle.pi_rewrite_sound.specs.Built.{unbuilt_part, is_built_goal}
 use Rattle.pi_top.specs.FaultLines.{token_line, verdict_line, goal_verdict_line, not_built_line, of_program, of_goal}
 
 -- the line on what isn't built: the number of the first such part, or the goal

@@ -1,9 +1,9 @@
 -- What is asked in a mode, and how.
 use Rattle.std.specs.Prelude.{ℕ, List, unwrap_or}
 use lib.Chars.{codes}
-use Rattle.pi_words.specs.declared.asked.Options.{Options}
-use Rattle.pi_words.specs.declared.run_mode.RunMode.{RunMode}
-use Rattle.pi_words.specs.declared.run_mode.RunMode.TheVariants.{Run, Demo}
+use Rattle.pi_top_words.specs.declared.asked.Options.{Options}
+use Rattle.pi_top_words.specs.declared.run_mode.RunMode.{RunMode}
+use Rattle.pi_top_words.specs.declared.run_mode.RunMode.TheVariants.{Run, Demo}
 use Rattle.pi_top.specs.declared.manner.Lines.TheVariants.{All, WithoutAnswers}
 use Rattle.pi_top.specs.declared.manner.Manner.{Manner}
 

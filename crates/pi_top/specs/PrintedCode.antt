@@ -1,7 +1,7 @@
 -- What the answers on a program's text that is printed say of it.
 use Rattle.std.specs.Prelude.{◌≡◌, ℕ, List}
 use Rattle.std.specs.String.{string_bytes}
-use Rattle.pi_canonical.specs.Canonical.{canonical_text}
+use Rattle.pi_print_program.specs.Canonical.{canonical_text}
 use Rattle.pi_syntax.specs.ProgramTree.{ProgramTree}
 use Rattle.pi_top.specs.declared.printing.Printed.{Printed}
 use Rattle.pi_top.specs.FaultLines.{of_program}

@@ -4,17 +4,17 @@ use Rattle.std.specs.Prelude.{◌≡◌, ◌<◌, ◌≤◌, ℕ, List, [], ◌�
 use Rattle.pi_outside.specs.Writes.{SinkWrite}
 use Rattle.pi_core.specs.CoreTree.{PredTree, QueryTree}
 use Rattle.pi_core.specs.declared.core_program.NameSlot.{NameSlot}
-use Rattle.pi_meaning.specs.Trace.{Tick, Load, Out, Emitted, noted, answered, count_ticks}
-use Rattle.pi_meaning.specs.Depth.{Cut}
-use Rattle.pi_meaning.specs.View.{query_view}
-use Rattle.pi_meaning.specs.Run.{Solution, IsRun}
-use Rattle.pi_meaning.specs.Told.{answer_of}
-use Rattle.pi_print.specs.PrintAnswer.{answer_lines}
+use Rattle.pi_meaning.specs.Traces.Trace.{Tick, Load, Out, Emitted, noted, answered, count_ticks}
+use Rattle.pi_meaning.specs.Traces.Depth.{Cut}
+use Rattle.pi_meaning.specs.Shared.View.{query_view}
+use Rattle.pi_meaning.specs.CoreMeaning.Run.{Solution, IsRun}
+use Rattle.pi_meaning.specs.Shared.Told.{answer_of}
+use Rattle.pi_print_terms.specs.PrintAnswer.{answer_lines}
 use Rattle.pi_meaning.specs.declared.happening.Budget.{Budget}
 use Rattle.pi_meaning.specs.declared.happening.Happening.{Happening}
 use Rattle.pi_meaning.specs.declared.happening.Mode.{Mode}
-use Rattle.pi_meaning.specs.Budget.{Counts, IsWithin}
-use Rattle.pi_meaning.specs.Built.{IsRunnable}
+use Rattle.pi_meaning.specs.Machine.Budget.{Counts, IsWithin}
+use Rattle.pi_meaning.specs.Machine.Built.{IsRunnable}
 use Rattle.pi_engine.specs.Seen.{MachineView, mode_of, end_of, GoesOn}
 use Rattle.pi_engine.specs.Happens.{HappensByTicks, lasting}
 use Rattle.pi_engine.specs.Runs.{RunsTo}

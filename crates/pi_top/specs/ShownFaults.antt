@@ -1,9 +1,9 @@
 -- The line of the fault of tokens that are no program, or no goal.
 use Rattle.std.specs.Prelude.{ℕ, false, List, Option, None, Some}
-use Rattle.pi_clauses.specs.Calls.{named}
-use Rattle.pi_clauses.specs.Verdict.{BadClause, TooDeep, BadDeclaration, TooManyVariables}
-use Rattle.pi_clauses.specs.declared.prog_fault.ProgFault.{ProgFault}
-use Rattle.pi_clauses.specs.declared.prog_fault.ProgFault.TheVariants as fault
+use Rattle.pi_prog_clauses.specs.Calls.{named}
+use Rattle.pi_prog_clauses.specs.Verdict.{BadClause, TooDeep, BadDeclaration, TooManyVariables}
+use Rattle.pi_prog_clauses.specs.declared.prog_fault.ProgFault.{ProgFault}
+use Rattle.pi_prog_clauses.specs.declared.prog_fault.ProgFault.TheVariants as fault
 use Rattle.pi_top.specs.FaultLines.{part_line, unknown_line, scattered_line}
 
 -- none where memory is wanted

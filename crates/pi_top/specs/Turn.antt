@@ -2,9 +2,9 @@
 use Rattle.std.specs.Prelude.{◌≡◌, ◌<◌, ◌+◌, ℕ, List, ◌++◌, Option, None, Some, Result, Ok, Err}
 use Rattle.pi_outside.specs.Writes.{SinkWrite}
 use Rattle.pi_core.specs.CoreTree.{PredTree, QueryTree}
-use Rattle.pi_meaning.specs.Trace.{Emitted, count_ticks}
-use Rattle.pi_meaning.specs.Depth.{Cut}
-use Rattle.pi_meaning.specs.Run.{Solution}
+use Rattle.pi_meaning.specs.Traces.Trace.{Emitted, count_ticks}
+use Rattle.pi_meaning.specs.Traces.Depth.{Cut}
+use Rattle.pi_meaning.specs.CoreMeaning.Run.{Solution}
 use Rattle.pi_meaning.specs.declared.happening.Budget.{Budget}
 use Rattle.pi_engine.specs.Seen.{MachineView}
 use Rattle.pi_top.specs.declared.manner.Lines.{Lines}

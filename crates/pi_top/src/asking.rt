@@ -53,7 +53,8 @@ pub fn judge_goal(
     program: &Program,
     core: &CoreProgram,
 ) -> Result<GoalJudged, AllocError>
-    ensures { IfOk result (λ judged. MayBeAsked (source_tree program.now) (program_tree core.now) → ShowsGoalJudged (source_tree program.now) (program_tree core.now) text.now judged) }
+    ensures { IfOk result (λ judged. MayBeAsked (source_tree program.now) (program_tree core.now) →
+        ShowsGoalJudged (source_tree program.now) (program_tree core.now) text.now judged) }
 {
     let goal = match goal_of(alloc, text, program) {
         Ok(goal) => goal,

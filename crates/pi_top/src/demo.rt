@@ -6,7 +6,8 @@ ghost use Rattle.pi_top.specs.Demo.{rules_text, place_lines, edge_lines, demo_pr
 use pi_terms::Text;
 use std::alloc::{AllocError, Global};
 
-/// The demo program over so many places, 1 to 400: a shortest way from the first to the last of them, and the number of ways to place six queens. (Own.)
+/// The demo program over so many places, 1 to 400: a shortest way from the first to the last of them, and the number of ways to
+/// place six queens. (Own.)
 pub fn demo_text(alloc: Global, places: u32) -> Result<Text, AllocError>
     requires some { 1 ≤ places }
     requires few { places ≤ 400 }

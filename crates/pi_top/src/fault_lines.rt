@@ -51,7 +51,8 @@ pub fn line_of(alloc: Global, words: &str, number: u64) -> Result<String, AllocE
 }
 
 fn unknown_line(alloc: Global, name: &str, arity: u32, number: u64) -> Result<String, AllocError>
-    ensures { IfOk result (λ line. string_bytes line ≡ codes "UnknownName " ++ ((name.now ++ (codes "/" ++ decimal arity)) ++ (codes " in " ++ decimal number))) }
+    ensures { IfOk result (λ line. string_bytes line ≡
+        codes "UnknownName " ++ ((name.now ++ (codes "/" ++ decimal arity)) ++ (codes " in " ++ decimal number))) }
 {
     let line = format!(in alloc; "UnknownName {name}/{arity} in {number}")?;
     Ok(line)

@@ -56,7 +56,8 @@ pub fn judge(alloc: Global, text: Vec<u8>, goal: &[u8]) -> Result<Judged, AllocE
 /// What a program and a goal without a fault come to: the line on the first part of them that isn't built, or both in the
 /// core language.
 fn lowered(alloc: Global, program: &Program, goal: &Goal) -> Result<Judged, AllocError>
-    ensures { IfOk result (λ judged. (text of_goal : List ℕ) → AreFaultless text of_goal (source_tree program.now) (goal_source goal.now) → ShowsJudged text of_goal judged) }
+    ensures { IfOk result (λ judged. (text of_goal : List ℕ) →
+        AreFaultless text of_goal (source_tree program.now) (goal_source goal.now) → ShowsJudged text of_goal judged) }
 {
     let core = match lower(alloc, program) {
         Ok(core) => core,

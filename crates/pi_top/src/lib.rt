@@ -23,6 +23,6 @@ mod top;
 
 pub use demo::demo_text;
 pub use outcome::Outcome;
-pub use pi_words::{Options, RunMode, WordsFault, read_words};
+pub use pi_top_words::{Options, RunMode, WordsFault, read_words};
 pub use runs::{Queries, QueryRun};
 pub use top::{picatq, picatq_limited};

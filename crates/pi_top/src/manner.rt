@@ -2,7 +2,7 @@
 ghost use Rattle.std.specs.Prelude.{◌≡◌};
 ghost use Rattle.pi_top.specs.Manner as spec;
 
-use pi_words::{Options, RunMode};
+use pi_top_words::{Options, RunMode};
 
 /// Which lines of a goal's run are written, beside the texts that the program writes itself.
 #[derive(Clone, Copy)]

@@ -2,8 +2,8 @@
 ghost use Rattle.std.specs.Prelude.{◌≡◌, ◌<◌, ℕ, List, [], ◌∷◌, ◌++◌, IfOk};
 ghost use Rattle.pi_outside.specs.Writes.{ByWrites, SinkWrite};
 ghost use Rattle.pi_core.specs.CoreTree.{PredTree, QueryTree};
-ghost use Rattle.pi_meaning.specs.Budget.{IsWithin};
-ghost use Rattle.pi_meaning.specs.Built.{IsRunnable};
+ghost use Rattle.pi_meaning.specs.Machine.Budget.{IsWithin};
+ghost use Rattle.pi_meaning.specs.Machine.Built.{IsRunnable};
 ghost use Rattle.pi_meaning.specs.declared.happening.Mode.{Mode};
 ghost use Rattle.pi_engine.specs.Seen.{machine_view, mode_of};
 ghost use Rattle.pi_top.specs.declared.runs.QueryRun.{QueryRun};
@@ -38,11 +38,14 @@ pub fn answer<'p, S: StateStore, O: Sink>(
     queries: &mut Queries,
 ) -> Result<Option<Present<'p, S>>, Stop>
     ensures writes { TellsWrites (O.faults out.old) (O.faults out.new) result }
-    ensures ran { IsInBudget manner.now.steps present.entry.budget → AllWithin manner.now.steps queries.old → AllWithin manner.now.steps queries.new }
+    ensures ran { IsInBudget manner.now.steps present.entry.budget → AllWithin manner.now.steps queries.old →
+        AllWithin manner.now.steps queries.new }
     ensures bounded { IsInBudget manner.now.steps present.entry.budget → IfOk result (IsBounded manner.now.steps) }
-    ensures comes { ByWrites O.wrote O.taken out.old out.new (λ writes. (first : List SinkWrite) (program : List PredTree) (q : QueryTree) (earlier : List QueryRun) (run : QueryRun) → queries.old ≡ earlier ++ run ∷ []
-        → CanAnswer manner.now program q (machine_view S.seen S.order present.entry.machine) present.entry.budget present.entry.given first
-        → AnswerComes S.seen S.order manner.now program q present.entry.given earlier result queries.new (first ++ writes)) }
+    ensures comes { ByWrites O.wrote O.taken out.old out.new
+        (λ writes. (first : List SinkWrite) (program : List PredTree) (q : QueryTree) (earlier : List QueryRun) (run : QueryRun) →
+        queries.old ≡ earlier ++ run ∷ [] → CanAnswer manner.now program q
+        (machine_view S.seen S.order present.entry.machine) present.entry.budget present.entry.given first →
+        AnswerComes S.seen S.order manner.now program q present.entry.given earlier result queries.new (first ++ writes)) }
 {
     let Present {
         mut machine,
@@ -76,8 +79,12 @@ fn write_next<S: StateStore, O: Sink>(
     ensures steps { budget.new.steps ≡ budget.old.steps }
     ensures mode { mode_of (machine_view S.seen S.order machine.new) ≡ mode_of (machine_view S.seen S.order machine.old) }
     ensures work { mode_of (machine_view S.seen S.order machine.old) ≡ Mode.Top → budget.new.work ≡ budget.old.work }
-    ensures comes { ByWrites O.wrote O.taken out.old out.new (λ writes. (first : List SinkWrite) (program : List PredTree) (q : QueryTree) → IsWritten manner.now.lines (machine_view S.seen S.order machine.old) budget.old given program q first
-        → IsRunnable program q → given < manner.now.answers → TurnComes manner.now.lines manner.now.answers given budget.old.steps program q (machine_view S.seen S.order machine.new) budget.new result (first ++ writes)) }
+    ensures comes { ByWrites O.wrote O.taken out.old out.new
+        (λ writes. (first : List SinkWrite) (program : List PredTree) (q : QueryTree) →
+        IsWritten manner.now.lines (machine_view S.seen S.order machine.old) budget.old given program q first →
+        IsRunnable program q → given < manner.now.answers →
+        TurnComes manner.now.lines manner.now.answers given budget.old.steps program q
+        (machine_view S.seen S.order machine.new) budget.new result (first ++ writes)) }
 {
     match next_told(machine, budget, out)? {
         Happening::Answer(answer) => write_answer(alloc, manner.lines, out, &answer)?,

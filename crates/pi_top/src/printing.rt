@@ -10,8 +10,8 @@ ghost use Rattle.pi_top.specs.declared.runs.QueryRun.{QueryRun};
 use crate::fault_lines::of_program;
 use crate::judgement::{Refusal, program_of};
 use crate::query::{Stop, ended};
-use pi_canonical::program_text;
 use pi_outside::Sink;
+use pi_print_program::program_text;
 use pi_terms::Text;
 use std::alloc::{AllocError, Global};
 
@@ -26,7 +26,8 @@ pub(crate) enum Printed {
 pub(crate) fn print_text<O: Sink>(alloc: Global, text: Vec<u8>, out: &mut O) -> Result<u8, Stop>
     ensures writes { TellsWrites (O.faults out.old) (O.faults out.new) result }
     ensures no_read { IfOk result (λ status. status < 7) }
-    ensures answers { ByWrites O.wrote O.taken out.old out.new (λ writes. (queries : List QueryRun) → queries ≡ [] → AnswersPrinted text.items queries result writes) }
+    ensures answers { ByWrites O.wrote O.taken out.old out.new (λ writes. (queries : List QueryRun) → queries ≡ [] →
+        AnswersPrinted text.items queries result writes) }
 {
     let printed = canonical_of(alloc, text)?;
     match printed {

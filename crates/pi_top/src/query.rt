@@ -3,11 +3,11 @@ ghost use Rattle.std.specs.Prelude.{◌≡◌, ◌<◌, ℕ, List, [], ◌∷◌
 ghost use Rattle.std.specs.String.{string_bytes};
 ghost use Rattle.pi_outside.specs.Writes.{ByWrites, SinkWrite};
 ghost use Rattle.pi_core.specs.CoreTree.{PredTree, QueryTree, program_tree, query_tree};
-ghost use Rattle.pi_print.specs.PrintAnswer.{answer_lines};
+ghost use Rattle.pi_print_terms.specs.PrintAnswer.{answer_lines};
 ghost use Rattle.pi_constraints.specs.State.{empty_state};
-ghost use Rattle.pi_meaning.specs.Budget.{IsWithin};
+ghost use Rattle.pi_meaning.specs.Machine.Budget.{IsWithin};
 ghost use Rattle.pi_meaning.specs.declared.happening.Mode.{Mode};
-ghost use Rattle.pi_meaning.specs.Built.{IsRunnable};
+ghost use Rattle.pi_meaning.specs.Machine.Built.{IsRunnable};
 ghost use Rattle.pi_engine.specs.Seen.{machine_view, mode_of};
 ghost use Rattle.pi_top.specs.declared.manner.Lines.{Lines};
 ghost use Rattle.pi_top.specs.declared.query.Stop.TheVariants.{Memory, Write};
@@ -26,10 +26,10 @@ use pi_constraints::StateStore;
 use pi_core::{Answer, CoreProgram, CoreQuery};
 use pi_engine::{Budget, Happening, Machine};
 use pi_outside::{Failed, Sink};
-use pi_print::{answer_text, term_text};
-use pi_raw_store::RawStore;
+use pi_print_terms::{answer_text, term_text};
+use pi_region::Words;
+use pi_store::RawStore;
 use pi_terms::Term;
-use pi_trail::Words;
 use std::alloc::{AllocError, Global};
 
 /// What ends a run without a line of its own.
@@ -67,8 +67,9 @@ pub fn run_query<O: Sink>(
     ensures writes { TellsWrites (O.faults out.old) (O.faults out.new) result }
     ensures status { IfOk result IsRun }
     ensures ran { AllWithin manner.now.steps queries.old → AllWithin manner.now.steps queries.new }
-    ensures comes { ByWrites O.wrote O.taken out.old out.new (λ writes. IsRunnable (program_tree core.now) (query_tree query) → 0 < manner.now.answers
-        → HasRun manner.now.lines manner.now.answers manner.now.steps (program_tree core.now) (query_tree query) queries.old queries.new result writes) }
+    ensures comes { ByWrites O.wrote O.taken out.old out.new (λ writes. IsRunnable (program_tree core.now) (query_tree query) →
+        0 < manner.now.answers → HasRun manner.now.lines manner.now.answers manner.now.steps (program_tree core.now)
+        (query_tree query) queries.old queries.new result writes) }
 {
     let store = RawStore::new(alloc, Words::new(alloc));
     run_over(alloc, core, query, store, manner, out, queries)
@@ -87,8 +88,10 @@ fn run_over<S: StateStore, O: Sink>(
     ensures writes { TellsWrites (O.faults out.old) (O.faults out.new) result }
     ensures status { IfOk result IsRun }
     ensures ran { AllWithin manner.now.steps queries.old → AllWithin manner.now.steps queries.new }
-    ensures comes { ByWrites O.wrote O.taken out.old out.new (λ writes. (S.seen store).now.state ≡ empty_state → IsRunnable (program_tree core.now) (query_tree query) → 0 < manner.now.answers
-        → HasRun manner.now.lines manner.now.answers manner.now.steps (program_tree core.now) (query_tree query) queries.old queries.new result writes) }
+    ensures comes { ByWrites O.wrote O.taken out.old out.new (λ writes. (S.seen store).now.state ≡ empty_state →
+        IsRunnable (program_tree core.now) (query_tree query) → 0 < manner.now.answers →
+        HasRun manner.now.lines manner.now.answers manner.now.steps (program_tree core.now)
+        (query_tree query) queries.old queries.new result writes) }
 {
     let begun = begin(alloc, core, query, store, manner, queries)?;
     let Begun {
@@ -113,8 +116,9 @@ fn write_answers<S: StateStore, O: Sink>(
     ensures within { IsWithin budget.old → IsWithin budget.new }
     ensures steps { budget.new.steps ≡ budget.old.steps }
     ensures work { mode_of (machine_view S.seen S.order machine.old) ≡ Mode.Top → budget.new.work ≡ budget.old.work }
-    ensures comes { ByWrites O.wrote O.taken out.old out.new (λ writes. (program : List PredTree) (q : QueryTree) → IsAtStart (machine_view S.seen S.order machine.old) budget.old manner.now.answers program q
-        → ComesTo manner.now.lines manner.now.answers budget.old.steps program q budget.new.ticks result writes) }
+    ensures comes { ByWrites O.wrote O.taken out.old out.new (λ writes. (program : List PredTree) (q : QueryTree) →
+        IsAtStart (machine_view S.seen S.order machine.old) budget.old manner.now.answers program q →
+        ComesTo manner.now.lines manner.now.answers budget.old.steps program q budget.new.ticks result writes) }
 {
     for given in 0..manner.answers {
         match next_told(machine, budget, out)? {
@@ -136,8 +140,10 @@ pub fn next_told<S: StateStore, O: Sink>(
     ensures steps { budget.new.steps ≡ budget.old.steps }
     ensures mode { mode_of (machine_view S.seen S.order machine.new) ≡ mode_of (machine_view S.seen S.order machine.old) }
     ensures work { mode_of (machine_view S.seen S.order machine.old) ≡ Mode.Top → budget.new.work ≡ budget.old.work }
-    ensures comes { ByWrites O.wrote O.taken out.old out.new (λ writes. (lines : Lines) (first : List SinkWrite) (given : ℕ) (program : List PredTree) (q : QueryTree) → IsSoFar lines (machine_view S.seen S.order machine.old) budget.old given program q first
-        → IsRunnable program q → NextComes lines given program q (machine_view S.seen S.order machine.new) budget.new result (first ++ writes)) }
+    ensures comes { ByWrites O.wrote O.taken out.old out.new
+        (λ writes. (lines : Lines) (first : List SinkWrite) (given : ℕ) (program : List PredTree) (q : QueryTree) →
+        IsSoFar lines (machine_view S.seen S.order machine.old) budget.old given program q first → IsRunnable program q →
+        NextComes lines given program q (machine_view S.seen S.order machine.new) budget.new result (first ++ writes)) }
 {
     for _turn in 0..u64::MAX {
         match machine.next(budget) {

@@ -26,9 +26,9 @@ use crate::starting::begin;
 use pi_constraints::StateStore;
 use pi_core::CoreProgram;
 use pi_outside::{Found, KEPT_LINE, LineReader, LineStop, Request, Sink, Source, request_of};
-use pi_raw_store::RawStore;
+use pi_region::Words;
+use pi_store::RawStore;
 use pi_syntax::Program;
-use pi_trail::Words;
 use std::alloc::Global;
 
 /// The present query, if there is one.
@@ -57,8 +57,11 @@ impl<'p> Session<'p> {
         ensures status { IfOk result (λ status. status < 8) }
         ensures spent { IfOk result (λ status. status ≡ 0 → IsSpent (I.rest input.new)) }
         ensures ran { AllWithin self.now.manner.steps queries.old → AllWithin self.now.manner.steps queries.new }
-        ensures comes { ByInput I.has_read I.rest input.old input.new (λ reads. ByWrites O.wrote O.taken out.old out.new (λ writes. MayBeAsked (source_tree self.now.program.now) (program_tree self.now.core.now) → 0 < self.now.manner.answers → queries.old ≡ []
-            → AnswersSession self.now.manner (source_tree self.now.program.now) most (counted (I.faults input.old) (I.faults input.new)) queries.new result reads writes)) }
+        ensures comes { ByInput I.has_read I.rest input.old input.new
+            (λ reads. ByWrites O.wrote O.taken out.old out.new
+            (λ writes. MayBeAsked (source_tree self.now.program.now) (program_tree self.now.core.now) → 0 < self.now.manner.answers →
+            queries.old ≡ [] → AnswersSession self.now.manner (source_tree self.now.program.now) most
+            (counted (I.faults input.old) (I.faults input.new)) queries.new result reads writes)) }
     {
         let mut reader = LineReader::new(self.alloc, most)?;
         let mut present = None;
@@ -98,11 +101,16 @@ impl<'p> Session<'p> {
         queries: &mut Queries,
     ) -> Result<Standing<'p>, Stop>
         ensures writes { TellsWrites (O.faults out.old) (O.faults out.new) result }
-        ensures ran { IsBounded self.now.manner.steps present.entry → AllWithin self.now.manner.steps queries.old → AllWithin self.now.manner.steps queries.new }
+        ensures ran { IsBounded self.now.manner.steps present.entry → AllWithin self.now.manner.steps queries.old →
+            AllWithin self.now.manner.steps queries.new }
         ensures bounded { IsBounded self.now.manner.steps present.entry → IfOk result (IsBounded self.now.manner.steps) }
-        ensures comes { ByWrites O.wrote O.taken out.old out.new (λ writes. (query : PresentQuery) → MayBeAsked (source_tree self.now.program.now) (program_tree self.now.core.now) → 0 < self.now.manner.answers
-            → Keeps ⟦<RawStore as StateStore>⟧.seen ⟦<RawStore as StateStore>⟧.order self.now.manner (source_tree self.now.program.now) (program_tree self.now.core.now) present.entry query queries.old
-            → ServesTo ⟦<RawStore as StateStore>⟧.seen ⟦<RawStore as StateStore>⟧.order self.now.manner (source_tree self.now.program.now) (program_tree self.now.core.now) query (asked_by_line line.now) result queries.old queries.new writes) }
+        ensures comes { ByWrites O.wrote O.taken out.old out.new (λ writes. (query : PresentQuery) →
+            MayBeAsked (source_tree self.now.program.now) (program_tree self.now.core.now) → 0 < self.now.manner.answers →
+            Keeps ⟦<RawStore as StateStore>⟧.seen ⟦<RawStore as StateStore>⟧.order self.now.manner (source_tree self.now.program.now)
+            (program_tree self.now.core.now) present.entry query queries.old →
+            ServesTo ⟦<RawStore as StateStore>⟧.seen ⟦<RawStore as StateStore>⟧.order self.now.manner
+            (source_tree self.now.program.now) (program_tree self.now.core.now) query
+            (asked_by_line line.now) result queries.old queries.new writes) }
     {
         match request_of(line) {
             Request::Nothing => Ok(present),
@@ -127,11 +135,14 @@ impl<'p> Session<'p> {
         queries: &mut Queries,
     ) -> Result<Standing<'p>, Stop>
         ensures writes { TellsWrites (O.faults out.old) (O.faults out.new) result }
-        ensures ran { IsBounded self.now.manner.steps present.entry → AllWithin self.now.manner.steps queries.old → AllWithin self.now.manner.steps queries.new }
+        ensures ran { IsBounded self.now.manner.steps present.entry → AllWithin self.now.manner.steps queries.old →
+            AllWithin self.now.manner.steps queries.new }
         ensures bounded { IsBounded self.now.manner.steps present.entry → IfOk result (IsBounded self.now.manner.steps) }
-        ensures comes { ByWrites O.wrote O.taken out.old out.new (λ writes. (query : PresentQuery)
-            → Keeps ⟦<RawStore as StateStore>⟧.seen ⟦<RawStore as StateStore>⟧.order self.now.manner (source_tree self.now.program.now) (program_tree self.now.core.now) present.entry query queries.old
-            → ServesTo ⟦<RawStore as StateStore>⟧.seen ⟦<RawStore as StateStore>⟧.order self.now.manner (source_tree self.now.program.now) (program_tree self.now.core.now) query another result queries.old queries.new writes) }
+        ensures comes { ByWrites O.wrote O.taken out.old out.new (λ writes. (query : PresentQuery) →
+            Keeps ⟦<RawStore as StateStore>⟧.seen ⟦<RawStore as StateStore>⟧.order self.now.manner (source_tree self.now.program.now)
+            (program_tree self.now.core.now) present.entry query queries.old →
+            ServesTo ⟦<RawStore as StateStore>⟧.seen ⟦<RawStore as StateStore>⟧.order self.now.manner
+            (source_tree self.now.program.now) (program_tree self.now.core.now) query another result queries.old queries.new writes) }
     {
         match present {
             Some(present) => answer(self.alloc, present, &self.manner, out, queries),
@@ -152,8 +163,11 @@ impl<'p> Session<'p> {
         ensures writes { TellsWrites (O.faults out.old) (O.faults out.new) result }
         ensures ran { AllWithin self.now.manner.steps queries.old → AllWithin self.now.manner.steps queries.new }
         ensures bounded { IfOk result (IsBounded self.now.manner.steps) }
-        ensures comes { ByWrites O.wrote O.taken out.old out.new (λ writes. (query : PresentQuery) → MayBeAsked (source_tree self.now.program.now) (program_tree self.now.core.now) → 0 < self.now.manner.answers
-            → ServesTo ⟦<RawStore as StateStore>⟧.seen ⟦<RawStore as StateStore>⟧.order self.now.manner (source_tree self.now.program.now) (program_tree self.now.core.now) query (a_goal text.now) result queries.old queries.new writes) }
+        ensures comes { ByWrites O.wrote O.taken out.old out.new (λ writes. (query : PresentQuery) →
+            MayBeAsked (source_tree self.now.program.now) (program_tree self.now.core.now) → 0 < self.now.manner.answers →
+            ServesTo ⟦<RawStore as StateStore>⟧.seen ⟦<RawStore as StateStore>⟧.order self.now.manner
+            (source_tree self.now.program.now) (program_tree self.now.core.now) query
+            (a_goal text.now) result queries.old queries.new writes) }
     {
         let judged = judge_goal(self.alloc, text, self.program, self.core)?;
         match judged {

@@ -17,7 +17,7 @@ use crate::query::{Stop, ended};
 use crate::runs::Queries;
 use crate::session::Session;
 use pi_outside::{Files, Sink, Source};
-use pi_words::Options;
+use pi_top_words::Options;
 use std::alloc::Global;
 
 /// Serves the lines of an input, asked of the program in a file. So many bytes of the input are read at most.
@@ -31,11 +31,15 @@ pub fn session_of_file<F: Files, I: Source, O: Sink>(
     queries: &mut Queries,
 ) -> Result<u8, Stop>
     ensures writes { TellsWrites (O.faults out.old) (O.faults out.new) result }
-    ensures reads { IfOk result (λ status. status ≡ 7 → Rose (F.faults files.old) (F.faults files.new) ⊎ Rose (I.faults input.old) (I.faults input.new)) }
+    ensures reads { IfOk result (λ status. status ≡ 7 →
+        Rose (F.faults files.old) (F.faults files.new) ⊎ Rose (I.faults input.old) (I.faults input.new)) }
     ensures status { IfOk result (λ status. status < 8) }
     ensures spent { IfOk result (λ status. status ≡ 0 → IsSpent (I.rest input.new)) }
-    ensures answers { ByReads F.has_read files.old files.new (λ reads. ByInput I.has_read I.rest input.old input.new (λ inputs. ByWrites O.wrote O.taken out.old out.new (λ writes. 0 < asked.now.answers → queries.old ≡ []
-        → AnswersSessionFile asked.now (F.held files.new) most (counted (F.faults files.old) (F.faults files.new)) (counted (I.faults input.old) (I.faults input.new)) queries.new [] result reads inputs writes))) }
+    ensures answers { ByReads F.has_read files.old files.new
+        (λ reads. ByInput I.has_read I.rest input.old input.new
+        (λ inputs. ByWrites O.wrote O.taken out.old out.new (λ writes. 0 < asked.now.answers → queries.old ≡ [] →
+        AnswersSessionFile asked.now (F.held files.new) most (counted (F.faults files.old) (F.faults files.new))
+        (counted (I.faults input.old) (I.faults input.new)) queries.new [] result reads inputs writes))) }
     ensures ran { AllWithin asked.now.steps queries.old → AllWithin asked.now.steps queries.new }
 {
     let text = match read_file(alloc, files, asked.file.as_str()) {
@@ -60,8 +64,10 @@ fn session_of_text<I: Source, O: Sink>(
     ensures reads { IfOk result (λ status. status ≡ 7 → Rose (I.faults input.old) (I.faults input.new)) }
     ensures status { IfOk result (λ status. status < 8) }
     ensures spent { IfOk result (λ status. status ≡ 0 → IsSpent (I.rest input.new)) }
-    ensures answers { ByInput I.has_read I.rest input.old input.new (λ inputs. ByWrites O.wrote O.taken out.old out.new (λ writes. 0 < asked.now.answers → queries.old ≡ []
-        → AnswersSessionText asked.now text.items most (counted (I.faults input.old) (I.faults input.new)) queries.new [] result inputs writes)) }
+    ensures answers { ByInput I.has_read I.rest input.old input.new
+        (λ inputs. ByWrites O.wrote O.taken out.old out.new (λ writes. 0 < asked.now.answers → queries.old ≡ [] →
+        AnswersSessionText asked.now text.items most (counted (I.faults input.old) (I.faults input.new)) queries.new []
+        result inputs writes)) }
     ensures ran { AllWithin asked.now.steps queries.old → AllWithin asked.now.steps queries.new }
 {
     let judged = judge_program(alloc, text)?;

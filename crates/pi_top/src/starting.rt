@@ -2,7 +2,7 @@
 ghost use Rattle.std.specs.Prelude.{◌≡◌, ◌<◌, ◌∷◌, [], ◌++◌, IfOk, IfErr, OnOk, OnErr};
 ghost use Rattle.pi_core.specs.CoreTree.{program_tree, query_tree};
 ghost use Rattle.pi_constraints.specs.State.{empty_state};
-ghost use Rattle.pi_meaning.specs.Built.{IsRunnable};
+ghost use Rattle.pi_meaning.specs.Machine.Built.{IsRunnable};
 ghost use Rattle.pi_meaning.specs.declared.happening.Mode.{Mode};
 ghost use Rattle.pi_engine.specs.Seen.{machine_view, mode_of};
 ghost use Rattle.pi_top.specs.declared.query.Stop.TheVariants.{Memory};
@@ -34,8 +34,10 @@ pub fn begin<'p, S: StateStore>(
     manner: &Manner,
     queries: &mut Queries,
 ) -> Result<Begun<'p, S>, Stop>
-    ensures starts { IfOk result (λ begun. (S.seen store).now.state ≡ empty_state → IsRunnable (program_tree core.now) (query_tree query) → 0 < manner.now.answers
-        → IsAtStart (machine_view S.seen S.order begun.machine) begun.budget manner.now.answers (program_tree core.now) (query_tree query)) }
+    ensures starts { IfOk result (λ begun. (S.seen store).now.state ≡ empty_state →
+        IsRunnable (program_tree core.now) (query_tree query) → 0 < manner.now.answers →
+        IsAtStart (machine_view S.seen S.order begun.machine) begun.budget manner.now.answers (program_tree core.now)
+        (query_tree query)) }
     ensures counts_ticks { IfOk result (λ begun. mode_of (machine_view S.seen S.order begun.machine) ≡ Mode.Top) }
     ensures bounded { IfOk result (λ begun. IsInBudget manner.now.steps begun.budget) }
     ensures workless { IfOk result (λ begun. begun.budget.work ≡ no_work) }

@@ -13,8 +13,8 @@ ghost use Rattle.pi_top.specs.Faults.{FaultCount, Stands, counted, TellsWrites};
 ghost use Rattle.pi_top.specs.Manner.{goal_of, manner_of};
 ghost use Rattle.pi_top.specs.Runs.{AllWithin};
 ghost use Rattle.pi_top.specs.Texts.{IsRead};
-ghost use Rattle.pi_words.specs.Words.{options, places_of};
-ghost use Rattle.pi_words.specs.declared.asked.Options.{Options};
+ghost use Rattle.pi_top_words.specs.Words.{options, places_of};
+ghost use Rattle.pi_top_words.specs.declared.asked.Options.{Options};
 
 use crate::demo::demo_text;
 use crate::files::{FileStop, read_file};
@@ -29,7 +29,7 @@ use crate::runs::Queries;
 use crate::session_file::session_of_file;
 use pi_outside::{Files, Sink, Source};
 use pi_terms::Series;
-use pi_words::{Options, RunMode, WordsFault, read_words};
+use pi_top_words::{Options, RunMode, WordsFault, read_words};
 use std::alloc::Global;
 
 /// The most bytes of a session's input.
@@ -45,19 +45,32 @@ pub fn picatq<F: Files, I: Source, O: Sink>(
     out: &mut O,
 ) -> Outcome
     ensures statuses { result.status ≤ 9 }
-    ensures ends { ByReads F.has_read files.old files.new (λ reads. ByWrites O.wrote O.taken out.old out.new (λ writes. AsksNoSession (options (map string_bytes words.now))
-        → Ends (map string_bytes words.now) (F.held files.new) result.queries result.log result.status (counted (F.faults files.old) (F.faults files.new)) (counted (O.faults out.old) (O.faults out.new)) reads writes)) }
-    ensures session { ByReads F.has_read files.old files.new (λ reads. ByInput I.has_read I.rest input.old input.new (λ inputs. ByWrites O.wrote O.taken out.old out.new (λ writes. (asked : Options)
-        → AsksSession (options (map string_bytes words.now)) asked
-        → SessionEnds asked (F.held files.new) most_input result.queries result.log result.status (counted (F.faults files.old) (F.faults files.new)) (counted (I.faults input.old) (I.faults input.new)) (counted (O.faults out.old) (O.faults out.new)) reads inputs writes))) }
-    ensures complete { ByWrites O.wrote O.taken out.old out.new (λ writes. (asked : Options) → AsksNoSession (options (map string_bytes words.now))
-        → NothingFails (map string_bytes words.now) asked result.status (counted (F.faults files.old) (F.faults files.new)) (counted (O.faults out.old) (O.faults out.new))
-        → Completes asked (F.held files.new) result.queries result.log result.status writes) }
-    ensures complete_session { (asked : Options) → NothingFailsInSession (map string_bytes words.now) asked result.status (counted (F.faults files.old) (F.faults files.new)) (counted (I.faults input.old) (I.faults input.new)) (counted (O.faults out.old) (O.faults out.new))
-        → (result.status ≡ 0) ⊎ (result.status ≡ 9) }
-    ensures spent { (asked : Options) → AsksSession (options (map string_bytes words.now)) asked → result.status ≡ 0 → IsSpent (I.rest input.new) }
-    ensures read_fault { result.status ≡ 7 → Rose (F.faults files.old) (F.faults files.new) ⊎ Rose (I.faults input.old) (I.faults input.new) }
-    ensures reads_well { result.status ≢ 7 → result.status ≢ 8 → (F.faults files.new ≡ F.faults files.old) × (I.faults input.new ≡ I.faults input.old) }
+    ensures ends { ByReads F.has_read files.old files.new
+        (λ reads. ByWrites O.wrote O.taken out.old out.new (λ writes. AsksNoSession (options (map string_bytes words.now)) →
+        Ends (map string_bytes words.now) (F.held files.new) result.queries result.log result.status
+        (counted (F.faults files.old) (F.faults files.new)) (counted (O.faults out.old) (O.faults out.new)) reads writes)) }
+    ensures session { ByReads F.has_read files.old files.new
+        (λ reads. ByInput I.has_read I.rest input.old input.new
+        (λ inputs. ByWrites O.wrote O.taken out.old out.new (λ writes. (asked : Options) →
+        AsksSession (options (map string_bytes words.now)) asked →
+        SessionEnds asked (F.held files.new) most_input result.queries result.log result.status
+        (counted (F.faults files.old) (F.faults files.new)) (counted (I.faults input.old) (I.faults input.new))
+        (counted (O.faults out.old) (O.faults out.new)) reads inputs writes))) }
+    ensures complete { ByWrites O.wrote O.taken out.old out.new (λ writes. (asked : Options) →
+        AsksNoSession (options (map string_bytes words.now)) →
+        NothingFails (map string_bytes words.now) asked result.status (counted (F.faults files.old) (F.faults files.new))
+        (counted (O.faults out.old) (O.faults out.new)) →
+        Completes asked (F.held files.new) result.queries result.log result.status writes) }
+    ensures complete_session { (asked : Options) →
+        NothingFailsInSession (map string_bytes words.now) asked result.status (counted (F.faults files.old) (F.faults files.new))
+        (counted (I.faults input.old) (I.faults input.new)) (counted (O.faults out.old) (O.faults out.new)) →
+        (result.status ≡ 0) ⊎ (result.status ≡ 9) }
+    ensures spent { (asked : Options) → AsksSession (options (map string_bytes words.now)) asked → result.status ≡ 0 →
+        IsSpent (I.rest input.new) }
+    ensures read_fault { result.status ≡ 7 → Rose (F.faults files.old) (F.faults files.new) ⊎ Rose (I.faults input.old)
+        (I.faults input.new) }
+    ensures reads_well { result.status ≢ 7 → result.status ≢ 8 →
+        (F.faults files.new ≡ F.faults files.old) × (I.faults input.new ≡ I.faults input.old) }
     ensures write_fault { result.status ≡ 8 → Rose (O.faults out.old) (O.faults out.new) }
     ensures writes_well { result.status ≢ 8 → result.status ≢ 9 → O.faults out.new ≡ O.faults out.old }
     ensures never_falls { NeverFalls (O.faults out.old) (O.faults out.new) }
@@ -80,19 +93,32 @@ pub fn picatq_limited<F: Files, I: Source, O: Sink>(
     most: u64,
 ) -> Outcome
     ensures statuses { result.status ≤ 9 }
-    ensures ends { ByReads F.has_read files.old files.new (λ reads. ByWrites O.wrote O.taken out.old out.new (λ writes. AsksNoSession (options (map string_bytes words.now))
-        → Ends (map string_bytes words.now) (F.held files.new) result.queries result.log result.status (counted (F.faults files.old) (F.faults files.new)) (counted (O.faults out.old) (O.faults out.new)) reads writes)) }
-    ensures session { ByReads F.has_read files.old files.new (λ reads. ByInput I.has_read I.rest input.old input.new (λ inputs. ByWrites O.wrote O.taken out.old out.new (λ writes. (asked : Options)
-        → AsksSession (options (map string_bytes words.now)) asked
-        → SessionEnds asked (F.held files.new) most result.queries result.log result.status (counted (F.faults files.old) (F.faults files.new)) (counted (I.faults input.old) (I.faults input.new)) (counted (O.faults out.old) (O.faults out.new)) reads inputs writes))) }
-    ensures complete { ByWrites O.wrote O.taken out.old out.new (λ writes. (asked : Options) → AsksNoSession (options (map string_bytes words.now))
-        → NothingFails (map string_bytes words.now) asked result.status (counted (F.faults files.old) (F.faults files.new)) (counted (O.faults out.old) (O.faults out.new))
-        → Completes asked (F.held files.new) result.queries result.log result.status writes) }
-    ensures complete_session { (asked : Options) → NothingFailsInSession (map string_bytes words.now) asked result.status (counted (F.faults files.old) (F.faults files.new)) (counted (I.faults input.old) (I.faults input.new)) (counted (O.faults out.old) (O.faults out.new))
-        → (result.status ≡ 0) ⊎ (result.status ≡ 9) }
-    ensures spent { (asked : Options) → AsksSession (options (map string_bytes words.now)) asked → result.status ≡ 0 → IsSpent (I.rest input.new) }
-    ensures read_fault { result.status ≡ 7 → Rose (F.faults files.old) (F.faults files.new) ⊎ Rose (I.faults input.old) (I.faults input.new) }
-    ensures reads_well { result.status ≢ 7 → result.status ≢ 8 → (F.faults files.new ≡ F.faults files.old) × (I.faults input.new ≡ I.faults input.old) }
+    ensures ends { ByReads F.has_read files.old files.new
+        (λ reads. ByWrites O.wrote O.taken out.old out.new (λ writes. AsksNoSession (options (map string_bytes words.now)) →
+        Ends (map string_bytes words.now) (F.held files.new) result.queries result.log result.status
+        (counted (F.faults files.old) (F.faults files.new)) (counted (O.faults out.old) (O.faults out.new)) reads writes)) }
+    ensures session { ByReads F.has_read files.old files.new
+        (λ reads. ByInput I.has_read I.rest input.old input.new
+        (λ inputs. ByWrites O.wrote O.taken out.old out.new (λ writes. (asked : Options) →
+        AsksSession (options (map string_bytes words.now)) asked →
+        SessionEnds asked (F.held files.new) most result.queries result.log result.status
+        (counted (F.faults files.old) (F.faults files.new)) (counted (I.faults input.old) (I.faults input.new))
+        (counted (O.faults out.old) (O.faults out.new)) reads inputs writes))) }
+    ensures complete { ByWrites O.wrote O.taken out.old out.new (λ writes. (asked : Options) →
+        AsksNoSession (options (map string_bytes words.now)) →
+        NothingFails (map string_bytes words.now) asked result.status (counted (F.faults files.old) (F.faults files.new))
+        (counted (O.faults out.old) (O.faults out.new)) →
+        Completes asked (F.held files.new) result.queries result.log result.status writes) }
+    ensures complete_session { (asked : Options) →
+        NothingFailsInSession (map string_bytes words.now) asked result.status (counted (F.faults files.old) (F.faults files.new))
+        (counted (I.faults input.old) (I.faults input.new)) (counted (O.faults out.old) (O.faults out.new)) →
+        (result.status ≡ 0) ⊎ (result.status ≡ 9) }
+    ensures spent { (asked : Options) → AsksSession (options (map string_bytes words.now)) asked → result.status ≡ 0 →
+        IsSpent (I.rest input.new) }
+    ensures read_fault { result.status ≡ 7 → Rose (F.faults files.old) (F.faults files.new) ⊎ Rose (I.faults input.old)
+        (I.faults input.new) }
+    ensures reads_well { result.status ≢ 7 → result.status ≢ 8 →
+        (F.faults files.new ≡ F.faults files.old) × (I.faults input.new ≡ I.faults input.old) }
     ensures write_fault { result.status ≡ 8 → Rose (O.faults out.old) (O.faults out.new) }
     ensures writes_well { result.status ≢ 8 → result.status ≢ 9 → O.faults out.new ≡ O.faults out.old }
     ensures never_falls { NeverFalls (O.faults out.old) (O.faults out.new) }
@@ -143,12 +169,21 @@ fn answered<F: Files, I: Source, O: Sink>(
     ensures status { IfOk result (λ status. status < 8) }
     ensures unread { ReadsNoFile (options (map string_bytes words.now)) → files.new ≡ files.old }
     ensures no_input { AsksNoSession (options (map string_bytes words.now)) → input.new ≡ input.old }
-    ensures spent { (asked : Options) → AsksSession (options (map string_bytes words.now)) asked → IfOk result (λ status. status ≡ 0 → IsSpent (I.rest input.new)) }
-    ensures answers { ByReads F.has_read files.old files.new (λ reads. ByWrites O.wrote O.taken out.old out.new (λ writes. queries.old ≡ [] → AsksNoSession (options (map string_bytes words.now))
-        → AnswersBy (options (map string_bytes words.now)) (F.held files.new) (counted (F.faults files.old) (F.faults files.new)) queries.new [] result reads writes)) }
-    ensures session { ByReads F.has_read files.old files.new (λ reads. ByInput I.has_read I.rest input.old input.new (λ inputs. ByWrites O.wrote O.taken out.old out.new (λ writes. queries.old ≡ [] → (asked : Options)
-        → AsksSession (options (map string_bytes words.now)) asked → AnswersSessionFile asked (F.held files.new) most (counted (F.faults files.old) (F.faults files.new)) (counted (I.faults input.old) (I.faults input.new)) queries.new [] result reads inputs writes))) }
-    ensures ran { (asked : Options) → options (map string_bytes words.now) ≡ Some asked → AllWithin asked.steps queries.old → AllWithin asked.steps queries.new }
+    ensures spent { (asked : Options) → AsksSession (options (map string_bytes words.now)) asked →
+        IfOk result (λ status. status ≡ 0 → IsSpent (I.rest input.new)) }
+    ensures answers { ByReads F.has_read files.old files.new
+        (λ reads. ByWrites O.wrote O.taken out.old out.new (λ writes. queries.old ≡ [] →
+        AsksNoSession (options (map string_bytes words.now)) →
+        AnswersBy (options (map string_bytes words.now)) (F.held files.new)
+        (counted (F.faults files.old) (F.faults files.new)) queries.new [] result reads writes)) }
+    ensures session { ByReads F.has_read files.old files.new
+        (λ reads. ByInput I.has_read I.rest input.old input.new
+        (λ inputs. ByWrites O.wrote O.taken out.old out.new (λ writes. queries.old ≡ [] → (asked : Options) →
+        AsksSession (options (map string_bytes words.now)) asked →
+        AnswersSessionFile asked (F.held files.new) most (counted (F.faults files.old) (F.faults files.new))
+        (counted (I.faults input.old) (I.faults input.new)) queries.new [] result reads inputs writes))) }
+    ensures ran { (asked : Options) → options (map string_bytes words.now) ≡ Some asked → AllWithin asked.steps queries.old →
+        AllWithin asked.steps queries.new }
 {
     let asked = match read_words(alloc, words) {
         Ok(asked) => asked,
@@ -175,8 +210,10 @@ fn asked_of_file<F: Files, O: Sink>(
     ensures writes { TellsWrites (O.faults out.old) (O.faults out.new) result }
     ensures reads { IfOk result (λ status. status ≡ 7 → Rose (F.faults files.old) (F.faults files.new)) }
     ensures status { IfOk result (λ status. status < 8) }
-    ensures answers { ByReads F.has_read files.old files.new (λ reads. ByWrites O.wrote O.taken out.old out.new (λ writes. 0 < asked.now.answers → queries.old ≡ []
-        → AnswersFile asked.now (F.held files.new) (counted (F.faults files.old) (F.faults files.new)) queries.new [] result reads writes)) }
+    ensures answers { ByReads F.has_read files.old files.new
+        (λ reads. ByWrites O.wrote O.taken out.old out.new (λ writes. 0 < asked.now.answers → queries.old ≡ [] →
+        AnswersFile asked.now (F.held files.new) (counted (F.faults files.old) (F.faults files.new)) queries.new [] result reads
+        writes)) }
     ensures ran { AllWithin asked.now.steps queries.old → AllWithin asked.now.steps queries.new }
 {
     let text = match read_file(alloc, files, asked.file.as_str()) {
@@ -199,8 +236,9 @@ fn asked_of_demo<O: Sink>(
 ) -> Result<u8, Stop>
     ensures writes { TellsWrites (O.faults out.old) (O.faults out.new) result }
     ensures no_read { IfOk result (λ status. status < 7) }
-    ensures answers { ByWrites O.wrote O.taken out.old out.new (λ writes. 0 < asked.now.answers → is_some (places_of asked.now) ≡ true → queries.old ≡ []
-        → (files : FaultCount) → Stands files → AnswersMade asked.now files queries.new [] result [] writes) }
+    ensures answers { ByWrites O.wrote O.taken out.old out.new (λ writes. 0 < asked.now.answers →
+        is_some (places_of asked.now) ≡ true → queries.old ≡ [] → (files : FaultCount) → Stands files →
+        AnswersMade asked.now files queries.new [] result [] writes) }
     ensures ran { AllWithin asked.now.steps queries.old → AllWithin asked.now.steps queries.new }
 {
     let Some(places) = asked.places() else {

@@ -69,8 +69,10 @@ impl TreeStore {
     /// Changes the present state, or a copy of it where it is kept; a refused change changes nothing.
     fn change(&mut self, change: Change) -> Result<(), AllocError>
         requires { IsSoundState self.old.atoms (changed self.old.present change) }
-        ensures ok { IfOk result (λ _. IsAdvanced self.old.atoms self.new.atoms self.old.earlier self.new.earlier self.old.present self.new.present self.old.is_kept self.new.is_kept (changed self.old.present change)) }
-        ensures err { OnErr result (IsSame self.old.atoms self.new.atoms self.old.earlier self.new.earlier self.old.present self.new.present self.old.is_kept self.new.is_kept) }
+        ensures ok { IfOk result (λ _. IsAdvanced self.old.atoms self.new.atoms self.old.earlier self.new.earlier self.old.present
+            self.new.present self.old.is_kept self.new.is_kept (changed self.old.present change)) }
+        ensures err { OnErr result (IsSame self.old.atoms self.new.atoms self.old.earlier self.new.earlier self.old.present
+            self.new.present self.old.is_kept self.new.is_kept) }
     {
         if !self.is_kept {
             self.present.change(change)?;
@@ -89,10 +91,13 @@ impl TreeStore {
 
     /// One more term.
     fn add(&mut self, term: StoredTerm) -> Result<Ref, AllocError>
-        requires { IsSoundTerm self.old.atoms (trees_of self.old.atoms self.old.present) (length self.old.present.terms) term × IsMadeBelow (length self.old.present.variables) term }
-        ensures ok { IfOk result (λ made. IsAdvanced self.old.atoms self.new.atoms self.old.earlier self.new.earlier self.old.present self.new.present self.old.is_kept self.new.is_kept (changed self.old.present (Change.Term term))) }
+        requires { IsSoundTerm self.old.atoms (trees_of self.old.atoms self.old.present) (length self.old.present.terms) term ×
+            IsMadeBelow (length self.old.present.variables) term }
+        ensures ok { IfOk result (λ made. IsAdvanced self.old.atoms self.new.atoms self.old.earlier self.new.earlier self.old.present
+            self.new.present self.old.is_kept self.new.is_kept (changed self.old.present (Change.Term term))) }
         ensures number { IfOk result (λ made. made ≡ record { number = length self.old.present.terms }) }
-        ensures err { OnErr result (IsSame self.old.atoms self.new.atoms self.old.earlier self.new.earlier self.old.present self.new.present self.old.is_kept self.new.is_kept) }
+        ensures err { OnErr result (IsSame self.old.atoms self.new.atoms self.old.earlier self.new.earlier self.old.present
+            self.new.present self.old.is_kept self.new.is_kept) }
     {
         let number = self.present.terms.len() as u64;
         self.change(Change::Term(term))?;
@@ -102,9 +107,15 @@ impl TreeStore {
     /// Makes something else known of an unbound variable; nothing where the term is none.
     fn know(&mut self, v: Ref, known: Known) -> Result<(), AllocError>
         requires { IsKnownBelow (length self.old.present.terms) known }
-        ensures keeps { Keeps (store_view self.old.atoms self.old.earlier self.old.present self.old.is_kept) (store_view self.new.atoms self.new.earlier self.new.present self.new.is_kept) }
-        ensures ok { IfOk result (λ _. (n : ℕ) → unbound_in self.old.present v ≡ Some n → Changes (store_view self.old.atoms self.old.earlier self.old.present self.old.is_kept) (store_view self.new.atoms self.new.earlier self.new.present self.new.is_kept) (with_variable (state_of (trees_of self.old.atoms self.old.present) self.old.present) n (known_of (trees_of self.old.atoms self.old.present) known))) }
-        ensures err { OnErr result (Stays (store_view self.old.atoms self.old.earlier self.old.present self.old.is_kept) (store_view self.new.atoms self.new.earlier self.new.present self.new.is_kept)) }
+        ensures keeps { Keeps (store_view self.old.atoms self.old.earlier self.old.present self.old.is_kept)
+            (store_view self.new.atoms self.new.earlier self.new.present self.new.is_kept) }
+        ensures ok { IfOk result (λ _. (n : ℕ) → unbound_in self.old.present v ≡ Some n →
+            Changes (store_view self.old.atoms self.old.earlier self.old.present self.old.is_kept)
+            (store_view self.new.atoms self.new.earlier self.new.present self.new.is_kept)
+            (with_variable (state_of (trees_of self.old.atoms self.old.present) self.old.present) n
+            (known_of (trees_of self.old.atoms self.old.present) known))) }
+        ensures err { OnErr result (Stays (store_view self.old.atoms self.old.earlier self.old.present self.old.is_kept)
+            (store_view self.new.atoms self.new.earlier self.new.present self.new.is_kept)) }
     {
         let Some(n) = self.present.unbound(v) else {
             return Ok(());

@@ -54,8 +54,10 @@ pub fn next_term<S: StateStore>(
     s: &S,
     rests: &mut Vec<Rest<Ref>>,
 ) -> Result<Option<Ref>, AllocError>
-    ensures terms { IfOk result (λ next. IsState (S.seen s.now).now.state → AreArgs (S.seen s.now) rests.old.items → GivesArg (S.seen s.now) rests.old.items next rests.new.items) }
-    ensures values { IfOk result (λ next. HoldsNoCycle (S.seen s.now) → AreWalks (S.seen s.now) rests.old.items → EntersNext (S.seen s.now) rests.old.items rests.new.items next) }
+    ensures terms { IfOk result (λ next. IsState (S.seen s.now).now.state → AreArgs (S.seen s.now) rests.old.items →
+        GivesArg (S.seen s.now) rests.old.items next rests.new.items) }
+    ensures values { IfOk result (λ next. HoldsNoCycle (S.seen s.now) → AreWalks (S.seen s.now) rests.old.items →
+        EntersNext (S.seen s.now) rests.old.items rests.new.items next) }
 {
     match take_rest(rests)? {
         Some(rest) => Ok(Some(s.arg(rest.of, rest.next))),
@@ -68,8 +70,10 @@ pub fn next_pair<S: StateStore>(
     s: &S,
     rests: &mut Vec<Rest<RefPair>>,
 ) -> Result<Option<RefPair>, AllocError>
-    ensures terms { IfOk result (λ next. IsState (S.seen s.now).now.state → ArePairs (S.seen s.now) rests.old.items → GivesPair (S.seen s.now) rests.old.items next rests.new.items) }
-    ensures values { IfOk result (λ next. HoldsNoCycle (S.seen s.now) → AreRests (S.seen s.now) rests.old.items → TakesPair (S.seen s.now) rests.old.items rests.new.items next) }
+    ensures terms { IfOk result (λ next. IsState (S.seen s.now).now.state → ArePairs (S.seen s.now) rests.old.items →
+        GivesPair (S.seen s.now) rests.old.items next rests.new.items) }
+    ensures values { IfOk result (λ next. HoldsNoCycle (S.seen s.now) → AreRests (S.seen s.now) rests.old.items →
+        TakesPair (S.seen s.now) rests.old.items rests.new.items next) }
 {
     match take_rest(rests)? {
         Some(rest) => Ok(Some(RefPair {

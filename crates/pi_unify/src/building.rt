@@ -17,7 +17,9 @@ pub fn put_compound<S: StateStore>(
     built: &mut Vec<Ref>,
 ) -> Result<Ref, AllocError>
     ensures stays { Stays (S.seen s.old) (S.seen s.new) }
-    ensures ok { IfOk result (λ made. (ts : Trees) → AreBuilt (S.seen s.old) built.old.items ts → IsTerm (S.seen s.new) made (comp name.now (take_trees count ts)) × AreBuilt (S.seen s.new) built.new.items (drop_trees count ts)) }
+    ensures ok { IfOk result (λ made. (ts : Trees) → AreBuilt (S.seen s.old) built.old.items ts →
+        IsTerm (S.seen s.new) made (comp name.now (take_trees count ts)) ×
+        AreBuilt (S.seen s.new) built.new.items (drop_trees count ts)) }
 {
     let from = built.len().saturating_sub(count);
     let args = from_behind(alloc, built, from)?;

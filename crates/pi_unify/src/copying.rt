@@ -34,7 +34,8 @@ struct Nodes {
 /// more than 16,777,216 cells; then nothing is changed. After want of memory some of the new variables may be made.
 pub fn copy_term<S: StateStore>(alloc: Global, s: &mut S, r: Ref) -> Result<Ref, ReadStop>
     ensures makes { MakesSome (S.seen s.old) (S.seen s.new) }
-    ensures copies { (t : Tree) → IsTerm (S.seen s.old) r t → HoldsNoCycle (S.seen s.old) → ShowsCopy (S.seen s.old) (S.seen s.new) (value (bindings (S.seen s.old).now.state) t) result }
+    ensures copies { (t : Tree) → IsTerm (S.seen s.old) r t → HoldsNoCycle (S.seen s.old) →
+        ShowsCopy (S.seen s.old) (S.seen s.new) (value (bindings (S.seen s.old).now.state) t) result }
 {
     let mut nodes = Nodes {
         refs: Vec::new(alloc),
@@ -54,7 +55,8 @@ fn copy_by_nodes<S: StateStore>(
     nodes: &mut Nodes,
 ) -> Result<Ref, ReadStop>
     ensures makes { MakesSome (S.seen s.old) (S.seen s.new) }
-    ensures copies { (t : Tree) → HasNone nodes.old → IsTerm (S.seen s.old) r t → HoldsNoCycle (S.seen s.old) → ShowsCopy (S.seen s.old) (S.seen s.new) (value (bindings (S.seen s.old).now.state) t) result }
+    ensures copies { (t : Tree) → HasNone nodes.old → IsTerm (S.seen s.old) r t → HoldsNoCycle (S.seen s.old) →
+        ShowsCopy (S.seen s.old) (S.seen s.new) (value (bindings (S.seen s.old).now.state) t) result }
 {
     let Ok(are_listed) = list_nodes(s, r, nodes) else {
         return Err(ReadStop::Memory);
@@ -74,7 +76,8 @@ fn copy_by_nodes<S: StateStore>(
 /// Lists the terms in a value, where none was listed before; false exactly where it has more than 16,777,216 cells.
 fn list_nodes<S: StateStore>(s: &S, r: Ref, nodes: &mut Nodes) -> Result<bool, AllocError>
     ensures some { IfOk result (λ are_listed. are_listed ≡ true → 0 < length nodes.new.refs.items) }
-    ensures shows { IfOk result (λ are_listed. HasNone nodes.old → IsGiven (S.seen s.now) r → HoldsNoCycle (S.seen s.now) → ShowsNodes (S.seen s.now) (value_of (S.seen s.now) r) nodes.new are_listed) }
+    ensures shows { IfOk result (λ are_listed. HasNone nodes.old → IsGiven (S.seen s.now) r → HoldsNoCycle (S.seen s.now) →
+        ShowsNodes (S.seen s.now) (value_of (S.seen s.now) r) nodes.new are_listed) }
 {
     let mut at = r;
     loop {
@@ -91,7 +94,9 @@ fn list_nodes<S: StateStore>(s: &S, r: Ref, nodes: &mut Nodes) -> Result<bool, A
 /// Lists one more term, and answers the one that comes next; None exactly where all are listed.
 fn list_node<S: StateStore>(s: &S, at: Ref, nodes: &mut Nodes) -> Result<Option<Ref>, AllocError>
     ensures one { IfOk result (λ _. length nodes.new.refs.items ≡ length nodes.old.refs.items + 1) }
-    ensures lists { IfOk result (λ next. (whole : Ref) → HoldsNoCycle (S.seen s.now) → Listing (S.seen s.now) nodes.old.refs.items nodes.old.numbers nodes.old.left.items at whole → GoesOnListing (S.seen s.now) nodes.new.refs.items nodes.new.numbers nodes.new.left.items whole next) }
+    ensures lists { IfOk result (λ next. (whole : Ref) → HoldsNoCycle (S.seen s.now) →
+        Listing (S.seen s.now) nodes.old.refs.items nodes.old.numbers nodes.old.left.items at whole →
+        GoesOnListing (S.seen s.now) nodes.new.refs.items nodes.new.numbers nodes.new.left.items whole next) }
 {
     nodes.refs.push(at)?;
     let cell = s.look(at);
@@ -119,7 +124,9 @@ fn put_copies<S: StateStore>(
 ) -> Result<Ref, AllocError>
     requires some { 0 < length refs.now }
     ensures stays { Stays (S.seen s.old) (S.seen s.new) }
-    ensures ok { IfOk result (λ made. (u : Tree) → AreListed (S.seen s.old) numbers.old refs.now → forest (values_of (S.seen s.old) refs.now) ≡ tree u no_trees → IsTerm (S.seen s.new) made (renamed (renumbered (S.seen s.old).now.state numbers.old) u)) }
+    ensures ok { IfOk result (λ made. (u : Tree) → AreListed (S.seen s.old) numbers.old refs.now →
+        forest (values_of (S.seen s.old) refs.now) ≡ tree u no_trees →
+        IsTerm (S.seen s.new) made (renamed (renumbered (S.seen s.old).now.state numbers.old) u)) }
 {
     let mut built = Vec::new(alloc);
     let mut i = refs.len();
@@ -142,7 +149,10 @@ fn put_copy<S: StateStore>(
 ) -> Result<Ref, AllocError>
     ensures stays { Stays (S.seen s.old) (S.seen s.new) }
     ensures known { IfOk result (λ _. MayCopy (S.seen s.old) numbers.old built.old.items node → numbers.new ≡ numbers.old) }
-    ensures ok { IfOk result (λ made. (ts : Trees) → MayCopy (S.seen s.old) numbers.old built.old.items node → let u = value_of (S.seen s.old) node in let rename = renumbered (S.seen s.old).now.state numbers.old in AreBuilt (S.seen s.old) built.old.items ts → take_trees (arity u) ts ≡ args (renamed rename u) → PutsCopy (S.seen s.new) rename u built.new.items made ts) }
+    ensures ok { IfOk result (λ made. (ts : Trees) → MayCopy (S.seen s.old) numbers.old built.old.items node →
+        let u = value_of (S.seen s.old) node in let rename = renumbered (S.seen s.old).now.state numbers.old in
+        AreBuilt (S.seen s.old) built.old.items ts → take_trees (arity u) ts ≡ args (renamed rename u) →
+        PutsCopy (S.seen s.new) rename u built.new.items made ts) }
 {
     match s.look(node) {
         Cell::Var(n) => {
@@ -181,7 +191,9 @@ fn copy_compound<S: StateStore>(
     built: &mut Vec<Ref>,
 ) -> Result<Ref, AllocError>
     ensures stays { Stays (S.seen s.old) (S.seen s.new) }
-    ensures ok { IfOk result (λ made. (name : List ℕ) (ts : Trees) → IsName (S.seen s.old) k name → AreBuilt (S.seen s.old) built.old.items ts → IsTerm (S.seen s.new) made (comp name (take_trees count ts)) × AreBuilt (S.seen s.new) built.new.items (drop_trees count ts)) }
+    ensures ok { IfOk result (λ made. (name : List ℕ) (ts : Trees) → IsName (S.seen s.old) k name →
+        AreBuilt (S.seen s.old) built.old.items ts → IsTerm (S.seen s.new) made (comp name (take_trees count ts)) ×
+        AreBuilt (S.seen s.new) built.new.items (drop_trees count ts)) }
 {
     let name = Text::new(alloc, s.name(k))?;
     put_compound(alloc, s, name.as_str(), count as usize, built)

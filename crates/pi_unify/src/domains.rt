@@ -28,7 +28,9 @@ pub fn domains_in<S: StateStore>(
     store: &S,
     values: &[NamedTerm],
 ) -> Result<VarDomains, AllocError>
-    ensures { IfOk result (λ domains. IsAcyclic (bindings (S.seen store.now).now.state) → AreUnbound (S.seen store.now).now.state (flat_map (λ v. occurrences v.value) values.now) → domains ≡ told_domains (S.seen store.now).now.state (answer_variables values.now)) }
+    ensures { IfOk result (λ domains. IsAcyclic (bindings (S.seen store.now).now.state) →
+        AreUnbound (S.seen store.now).now.state (flat_map (λ v. occurrences v.value) values.now) →
+        domains ≡ told_domains (S.seen store.now).now.state (answer_variables values.now)) }
 {
     let mut met = Met {
         variables: Numbers::new(alloc),
@@ -47,7 +49,8 @@ fn meet_all<S: StateStore>(
     term: &Term,
     met: &mut Met,
 ) -> Result<(), AllocError>
-    ensures { IfOk result (λ _. (ns : List ℕ) → HasMet (S.seen store.now).now.state ns met.old → HasMet (S.seen store.now).now.state (ns ++ occurrences term.now) met.new) }
+    ensures { IfOk result (λ _. (ns : List ℕ) → HasMet (S.seen store.now).now.state ns met.old →
+        HasMet (S.seen store.now).now.state (ns ++ occurrences term.now) met.new) }
 {
     for i in 0..term.cells() {
         if let TermHead::Var(n) = term.head_at(i) {
@@ -64,7 +67,8 @@ fn meet_one<S: StateStore>(
     n: u64,
     met: &mut Met,
 ) -> Result<(), AllocError>
-    ensures { IfOk result (λ _. (ns : List ℕ) → HasMet (S.seen store.now).now.state ns met.old → HasMet (S.seen store.now).now.state (ns ++ n ∷ []) met.new) }
+    ensures { IfOk result (λ _. (ns : List ℕ) → HasMet (S.seen store.now).now.state ns met.old →
+        HasMet (S.seen store.now).now.state (ns ++ n ∷ []) met.new) }
 {
     let before = met.variables.len();
     met.variables.meet(n)?;
@@ -79,7 +83,8 @@ fn meet_one<S: StateStore>(
 
 /// The domain of an unbound variable; None for one that has none, or that wasn't made.
 fn domain_of<S: StateStore>(alloc: Global, store: &S, n: u64) -> Result<Option<Domain>, AllocError>
-    ensures { IfOk result (λ found. IsAcyclic (bindings (S.seen store.now).now.state) → held (bindings (S.seen store.now).now.state) n ≡ None → found ≡ domain_in_state (S.seen store.now).now.state n) }
+    ensures { IfOk result (λ found. IsAcyclic (bindings (S.seen store.now).now.state) →
+        held (bindings (S.seen store.now).now.state) n ≡ None → found ≡ domain_in_state (S.seen store.now).now.state n) }
 {
     if n >= store.vars() {
         return Ok(None);

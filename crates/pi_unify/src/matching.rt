@@ -48,9 +48,16 @@ pub fn match_head<S: StateStore>(
     slots: &mut Slots,
 ) -> Result<bool, AllocError>
     ensures fills { FillsEmpty slots.old.items slots.new.items }
-    ensures given { IsGiven (S.seen s.now) r → HoldsNoCycle (S.seen s.now) → HoldAllGiven (S.seen s.now) slots.old.items → HoldAllGiven (S.seen s.now) slots.new.items }
-    ensures terms { IfOk result (λ found. (t : Tree) → IsTerm (S.seen s.now) r t → HoldsNoCycle (S.seen s.now) → HoldAllGiven (S.seen s.now) slots.old.items → TellsMatch found (matched_in (bindings (S.seen s.now).now.state) (pattern_tree p.now) t (slot_terms (S.seen s.now) slots.old.items)) (slot_terms (S.seen s.now) slots.new.items)) }
-    ensures values { IfOk result (λ found. (t : Tree) → IsTerm (S.seen s.now) r t → HoldsNoCycle (S.seen s.now) → HoldAllGiven (S.seen s.now) slots.old.items → let b = bindings (S.seen s.now).now.state in TellsMatch found (matched (pattern_tree p.now) (value b t) (slot_values b (slot_terms (S.seen s.now) slots.old.items))) (slot_values b (slot_terms (S.seen s.now) slots.new.items))) }
+    ensures given { IsGiven (S.seen s.now) r → HoldsNoCycle (S.seen s.now) → HoldAllGiven (S.seen s.now) slots.old.items →
+        HoldAllGiven (S.seen s.now) slots.new.items }
+    ensures terms { IfOk result (λ found. (t : Tree) → IsTerm (S.seen s.now) r t → HoldsNoCycle (S.seen s.now) →
+        HoldAllGiven (S.seen s.now) slots.old.items →
+        TellsMatch found (matched_in (bindings (S.seen s.now).now.state) (pattern_tree p.now) t
+        (slot_terms (S.seen s.now) slots.old.items)) (slot_terms (S.seen s.now) slots.new.items)) }
+    ensures values { IfOk result (λ found. (t : Tree) → IsTerm (S.seen s.now) r t → HoldsNoCycle (S.seen s.now) →
+        HoldAllGiven (S.seen s.now) slots.old.items → let b = bindings (S.seen s.now).now.state in
+        TellsMatch found (matched (pattern_tree p.now) (value b t) (slot_values b (slot_terms (S.seen s.now) slots.old.items)))
+        (slot_values b (slot_terms (S.seen s.now) slots.new.items))) }
 {
     match_pattern(alloc, s, p, r, slots)
 }
@@ -64,8 +71,12 @@ fn match_pattern<S: StateStore>(
     slots: &mut Slots,
 ) -> Result<bool, AllocError>
     ensures fills { FillsEmpty slots.old.items slots.new.items }
-    ensures given { IsGiven (S.seen s.now) r → HoldsNoCycle (S.seen s.now) → HoldAllGiven (S.seen s.now) slots.old.items → HoldAllGiven (S.seen s.now) slots.new.items }
-    ensures terms { IfOk result (λ found. (t : Tree) → IsTerm (S.seen s.now) r t → HoldsNoCycle (S.seen s.now) → HoldAllGiven (S.seen s.now) slots.old.items → TellsMatch found (matched_in (bindings (S.seen s.now).now.state) (pattern_tree p.now) t (slot_terms (S.seen s.now) slots.old.items)) (slot_terms (S.seen s.now) slots.new.items)) }
+    ensures given { IsGiven (S.seen s.now) r → HoldsNoCycle (S.seen s.now) → HoldAllGiven (S.seen s.now) slots.old.items →
+        HoldAllGiven (S.seen s.now) slots.new.items }
+    ensures terms { IfOk result (λ found. (t : Tree) → IsTerm (S.seen s.now) r t → HoldsNoCycle (S.seen s.now) →
+        HoldAllGiven (S.seen s.now) slots.old.items →
+        TellsMatch found (matched_in (bindings (S.seen s.now).now.state) (pattern_tree p.now) t
+        (slot_terms (S.seen s.now) slots.old.items)) (slot_terms (S.seen s.now) slots.new.items)) }
 {
     match p {
         Pattern::Comp(_, patterns) => {
@@ -87,8 +98,12 @@ fn match_arguments<S: StateStore>(
     slots: &mut Slots,
 ) -> Result<bool, AllocError>
     ensures fills { FillsEmpty slots.old.items slots.new.items }
-    ensures given { IsGiven (S.seen s.now) of → HoldsNoCycle (S.seen s.now) → HasAsMany (S.seen s.now) of patterns.now → HoldAllGiven (S.seen s.now) slots.old.items → HoldAllGiven (S.seen s.now) slots.new.items }
-    ensures found { IfOk result (λ found. IsGiven (S.seen s.now) of → HoldsNoCycle (S.seen s.now) → HasAsMany (S.seen s.now) of patterns.now → HoldAllGiven (S.seen s.now) slots.old.items → TellsMatch found (arguments_match (S.seen s.now) patterns.now of (slot_terms (S.seen s.now) slots.old.items)) (slot_terms (S.seen s.now) slots.new.items)) }
+    ensures given { IsGiven (S.seen s.now) of → HoldsNoCycle (S.seen s.now) → HasAsMany (S.seen s.now) of patterns.now →
+        HoldAllGiven (S.seen s.now) slots.old.items → HoldAllGiven (S.seen s.now) slots.new.items }
+    ensures found { IfOk result (λ found. IsGiven (S.seen s.now) of → HoldsNoCycle (S.seen s.now) →
+        HasAsMany (S.seen s.now) of patterns.now → HoldAllGiven (S.seen s.now) slots.old.items →
+        TellsMatch found (arguments_match (S.seen s.now) patterns.now of (slot_terms (S.seen s.now) slots.old.items))
+        (slot_terms (S.seen s.now) slots.new.items)) }
 {
     for i in 0..patterns.len() {
         let pattern = pattern_at(patterns, i);
@@ -109,8 +124,12 @@ fn match_part<S: StateStore>(
     slots: &mut Slots,
 ) -> Result<bool, AllocError>
     ensures fills { FillsEmpty slots.old.items slots.new.items }
-    ensures given { IsGiven (S.seen s.now) r → HoldsNoCycle (S.seen s.now) → HoldAllGiven (S.seen s.now) slots.old.items → HoldAllGiven (S.seen s.now) slots.new.items }
-    ensures terms { IfOk result (λ found. (t : Tree) → IsTerm (S.seen s.now) r t → HoldsNoCycle (S.seen s.now) → HoldAllGiven (S.seen s.now) slots.old.items → TellsMatch found (matched_in (bindings (S.seen s.now).now.state) (pattern_tree p.now) t (slot_terms (S.seen s.now) slots.old.items)) (slot_terms (S.seen s.now) slots.new.items)) }
+    ensures given { IsGiven (S.seen s.now) r → HoldsNoCycle (S.seen s.now) → HoldAllGiven (S.seen s.now) slots.old.items →
+        HoldAllGiven (S.seen s.now) slots.new.items }
+    ensures terms { IfOk result (λ found. (t : Tree) → IsTerm (S.seen s.now) r t → HoldsNoCycle (S.seen s.now) →
+        HoldAllGiven (S.seen s.now) slots.old.items →
+        TellsMatch found (matched_in (bindings (S.seen s.now).now.state) (pattern_tree p.now) t
+        (slot_terms (S.seen s.now) slots.old.items)) (slot_terms (S.seen s.now) slots.new.items)) }
 {
     match p {
         Pattern::Slot(_) | Pattern::Int(_) | Pattern::Atom(_) => {
@@ -129,8 +148,12 @@ fn match_nested<S: StateStore>(
     slots: &mut Slots,
 ) -> Result<bool, AllocError>
     ensures fills { FillsEmpty slots.old.items slots.new.items }
-    ensures given { IsGiven (S.seen s.now) r → HoldsNoCycle (S.seen s.now) → HoldAllGiven (S.seen s.now) slots.old.items → HoldAllGiven (S.seen s.now) slots.new.items }
-    ensures terms { IfOk result (λ found. (t : Tree) → IsTerm (S.seen s.now) r t → HoldsNoCycle (S.seen s.now) → HoldAllGiven (S.seen s.now) slots.old.items → TellsMatch found (matched_in (bindings (S.seen s.now).now.state) (pattern_tree p.now) t (slot_terms (S.seen s.now) slots.old.items)) (slot_terms (S.seen s.now) slots.new.items)) }
+    ensures given { IsGiven (S.seen s.now) r → HoldsNoCycle (S.seen s.now) → HoldAllGiven (S.seen s.now) slots.old.items →
+        HoldAllGiven (S.seen s.now) slots.new.items }
+    ensures terms { IfOk result (λ found. (t : Tree) → IsTerm (S.seen s.now) r t → HoldsNoCycle (S.seen s.now) →
+        HoldAllGiven (S.seen s.now) slots.old.items →
+        TellsMatch found (matched_in (bindings (S.seen s.now).now.state) (pattern_tree p.now) t
+        (slot_terms (S.seen s.now) slots.old.items)) (slot_terms (S.seen s.now) slots.new.items)) }
 {
     let mut left = Vec::new(alloc);
     let mut at = Pending {
@@ -157,8 +180,12 @@ fn matches_at_root<S: StateStore>(
     slots: &mut Slots,
 ) -> Result<bool, AllocError>
     ensures fills { FillsEmpty slots.old.items slots.new.items }
-    ensures given { IsGiven (S.seen s.now) term → HoldAllGiven (S.seen s.now) slots.old.items → HoldAllGiven (S.seen s.now) slots.new.items }
-    ensures found { IfOk result (λ found. IsGiven (S.seen s.now) term → HoldsNoCycle (S.seen s.now) → HoldAllGiven (S.seen s.now) slots.old.items → TellsMatch found (root_match (bindings (S.seen s.now).now.state) (pattern_tree pattern.now) (term_of (S.seen s.now) term) (slot_terms (S.seen s.now) slots.old.items)) (slot_terms (S.seen s.now) slots.new.items)) }
+    ensures given { IsGiven (S.seen s.now) term → HoldAllGiven (S.seen s.now) slots.old.items →
+        HoldAllGiven (S.seen s.now) slots.new.items }
+    ensures found { IfOk result (λ found. IsGiven (S.seen s.now) term → HoldsNoCycle (S.seen s.now) →
+        HoldAllGiven (S.seen s.now) slots.old.items →
+        TellsMatch found (root_match (bindings (S.seen s.now).now.state) (pattern_tree pattern.now) (term_of (S.seen s.now) term)
+        (slot_terms (S.seen s.now) slots.old.items)) (slot_terms (S.seen s.now) slots.new.items)) }
 {
     match pattern {
         Pattern::Slot(k) => fill(alloc, s, slots, *k, term),
@@ -220,8 +247,12 @@ fn fill<S: StateStore>(
     term: Ref,
 ) -> Result<bool, AllocError>
     ensures fills { FillsEmpty slots.old.items slots.new.items }
-    ensures given { IsGiven (S.seen s.now) term → HoldAllGiven (S.seen s.now) slots.old.items → HoldAllGiven (S.seen s.now) slots.new.items }
-    ensures found { IfOk result (λ found. IsGiven (S.seen s.now) term → HoldsNoCycle (S.seen s.now) → HoldAllGiven (S.seen s.now) slots.old.items → TellsMatch found (filled_in (bindings (S.seen s.now).now.state) k (term_of (S.seen s.now) term) (slot_terms (S.seen s.now) slots.old.items)) (slot_terms (S.seen s.now) slots.new.items)) }
+    ensures given { IsGiven (S.seen s.now) term → HoldAllGiven (S.seen s.now) slots.old.items →
+        HoldAllGiven (S.seen s.now) slots.new.items }
+    ensures found { IfOk result (λ found. IsGiven (S.seen s.now) term → HoldsNoCycle (S.seen s.now) →
+        HoldAllGiven (S.seen s.now) slots.old.items →
+        TellsMatch found (filled_in (bindings (S.seen s.now).now.state) k (term_of (S.seen s.now) term)
+        (slot_terms (S.seen s.now) slots.old.items)) (slot_terms (S.seen s.now) slots.new.items)) }
 {
     let k = k as usize;
     if k >= slots.len() {
@@ -245,7 +276,10 @@ fn after_root<'p, S: StateStore>(
 ) -> Result<Option<Pending<'p>>, AllocError>
     requires within { AreWithin left.old.items }
     ensures fewer { IfOk result (LeavesFewer (nodes (pattern_tree pattern.now) + nodes_left left.old.items) left.new.items) }
-    ensures comes { IfOk result (λ next. IsGiven (S.seen s.now) term → HoldsNoCycle (S.seen s.now) → AreLeft (S.seen s.now) left.old.items → FitsRoot (bindings (S.seen s.now).now.state) (pattern_tree pattern.now) (term_of (S.seen s.now) term) → ComesBehind (S.seen s.now) (pattern_tree pattern.now) (term_of (S.seen s.now) term) left.old.items left.new.items next) }
+    ensures comes { IfOk result (λ next. IsGiven (S.seen s.now) term → HoldsNoCycle (S.seen s.now) →
+        AreLeft (S.seen s.now) left.old.items → FitsRoot (bindings (S.seen s.now).now.state) (pattern_tree pattern.now)
+        (term_of (S.seen s.now) term) → ComesBehind (S.seen s.now) (pattern_tree pattern.now)
+        (term_of (S.seen s.now) term) left.old.items left.new.items next) }
 {
     match pattern {
         Pattern::Named(_, inner) => Ok(Some(Pending {
@@ -286,7 +320,8 @@ fn next_argument<'p, S: StateStore>(
 ) -> Result<Option<Pending<'p>>, AllocError>
     requires within { AreWithin left.old.items }
     ensures nodes { IfOk result (LeavesNodes (nodes_left left.old.items) left.new.items) }
-    ensures takes { IfOk result (λ next. HoldsNoCycle (S.seen s.now) → AreLeft (S.seen s.now) left.old.items → TakesPending (S.seen s.now) left.old.items left.new.items next) }
+    ensures takes { IfOk result (λ next. HoldsNoCycle (S.seen s.now) → AreLeft (S.seen s.now) left.old.items →
+        TakesPending (S.seen s.now) left.old.items left.new.items next) }
 {
     let Some(first) = left.pop() else {
         return Ok(None);

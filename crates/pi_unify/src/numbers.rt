@@ -23,7 +23,8 @@ pub fn make_variables<S: StateStore>(s: &mut S, count: usize) -> Result<(), Allo
 /// The new variable in place of one that was met, where the newest variables stand for all that were met, in order.
 pub fn new_variable<S: StateStore>(s: &S, numbers: &Numbers, n: u64) -> Ref
     requires known { Contains numbers.now n }
-    ensures { length numbers.now ≤ next (S.seen s.now).now.state → IsTerm (S.seen s.now) result (var (renumbered (S.seen s.now).now.state numbers.now n)) }
+    ensures { length numbers.now ≤ next (S.seen s.now).now.state →
+        IsTerm (S.seen s.now) result (var (renumbered (S.seen s.now).now.state numbers.now n)) }
 {
     let behind = numbers.len() - numbers.place(n);
     s.var_ref(s.vars().saturating_sub(behind as u64))

@@ -28,7 +28,8 @@ pub(crate) fn occurs<S: StateStore>(
     v: u64,
     r: Ref,
 ) -> Result<bool, AllocError>
-    ensures { IfOk result (λ found. IsState (S.seen s.now).now.state → IsRef (S.seen s.now) r → found ≡ does_occur v (value (bindings (S.seen s.now).now.state) (term_of (S.seen s.now) r))) }
+    ensures { IfOk result (λ found. IsState (S.seen s.now).now.state → IsRef (S.seen s.now) r →
+        found ≡ does_occur v (value (bindings (S.seen s.now).now.state) (term_of (S.seen s.now) r))) }
 {
     if is_apart(s, v, r) {
         return Ok(false);
@@ -61,7 +62,9 @@ fn is_apart<S: StateStore>(s: &S, v: u64, r: Ref) -> bool
 
 /// Whether all arguments of a compound, so many, are ground terms and other variables.
 fn are_others<S: StateStore>(s: &S, v: u64, of: Ref, count: u64) -> bool
-    ensures { result ≡ true → IsState (S.seen s.now).now.state → IsRef (S.seen s.now) of → arity (root_of (S.seen s.now) of) ≡ count → some_hold (bindings (S.seen s.now).now.state) v (in_list (args (root_of (S.seen s.now) of))) ≡ false }
+    ensures { result ≡ true → IsState (S.seen s.now).now.state → IsRef (S.seen s.now) of →
+        arity (root_of (S.seen s.now) of) ≡ count → some_hold (bindings (S.seen s.now).now.state) v
+        (in_list (args (root_of (S.seen s.now) of))) ≡ false }
 {
     for i in 0..count {
         if !is_another(s, v, s.arg(of, i)) {
@@ -95,7 +98,9 @@ fn look_for<S: StateStore>(
     at: Ref,
     ahead: &mut Vec<Rest<Ref>>,
 ) -> Result<Look, AllocError>
-    ensures { IfOk result (λ look. IsState (S.seen s.now).now.state → IsRef (S.seen s.now) at → AreArgs (S.seen s.now) ahead.old.items → LooksFor (S.seen s.now) v (term_and (S.seen s.now) at ahead.old.items) look ahead.new.items) }
+    ensures { IfOk result (λ look. IsState (S.seen s.now).now.state → IsRef (S.seen s.now) at →
+        AreArgs (S.seen s.now) ahead.old.items → LooksFor (S.seen s.now) v
+        (term_and (S.seen s.now) at ahead.old.items) look ahead.new.items) }
 {
     if s.is_ground(at) {
         return next_arg(s, ahead);
@@ -117,7 +122,8 @@ fn look_for<S: StateStore>(
 
 /// The argument that comes next.
 fn next_arg<S: StateStore>(s: &S, ahead: &mut Vec<Rest<Ref>>) -> Result<Look, AllocError>
-    ensures { IfOk result (λ look. IsState (S.seen s.now).now.state → AreArgs (S.seen s.now) ahead.old.items → TakesArg (S.seen s.now) ahead.old.items look ahead.new.items) }
+    ensures { IfOk result (λ look. IsState (S.seen s.now).now.state → AreArgs (S.seen s.now) ahead.old.items →
+        TakesArg (S.seen s.now) ahead.old.items look ahead.new.items) }
 {
     match next_term(s, ahead)? {
         Some(next) => Ok(Look::Next(next)),

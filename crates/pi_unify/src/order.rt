@@ -16,7 +16,9 @@ use std::cmp::Ordering;
 /// How the values of two terms stand in the standard order. Its stack lies on the heap, and the last argument of a
 /// compound leaves nothing on it.
 pub fn compare<S: StateStore>(alloc: Global, s: &S, a: Ref, b: Ref) -> Result<Ordering, AllocError>
-    ensures { IfOk result (λ found. (t u : Tree) → IsTerm (S.seen s.now) a t → IsTerm (S.seen s.now) b u → HoldsNoCycle (S.seen s.now) → found ≡ order (value (bindings (S.seen s.now).now.state) t) (value (bindings (S.seen s.now).now.state) u)) }
+    ensures { IfOk result (λ found. (t u : Tree) → IsTerm (S.seen s.now) a t → IsTerm (S.seen s.now) b u →
+        HoldsNoCycle (S.seen s.now) → found ≡ order (value (bindings (S.seen s.now).now.state) t)
+        (value (bindings (S.seen s.now).now.state) u)) }
 {
     let mut rests = Vec::new(alloc);
     let mut pair = RefPair { left: a, right: b };

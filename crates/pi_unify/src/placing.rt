@@ -16,7 +16,8 @@ use std::alloc::{AllocError, Global};
 /// Puts a term into a store, with new plain variables in place of its own, numbered by first occurrence from the left.
 /// Where that is refused some of the new variables may be made.
 pub fn place<S: StateStore>(alloc: Global, s: &mut S, t: &Term) -> Result<Ref, AllocError>
-    ensures ok { IfOk result (λ made. Gives (S.seen s.old) (S.seen s.new) (with_variables (new_variables t.now) (S.seen s.old).now.state) made (copy (next (S.seen s.old).now.state) t.now)) }
+    ensures ok { IfOk result (λ made. Gives (S.seen s.old) (S.seen s.new)
+        (with_variables (new_variables t.now) (S.seen s.old).now.state) made (copy (next (S.seen s.old).now.state) t.now)) }
     ensures err { OnErr result (MakesSome (S.seen s.old) (S.seen s.new)) }
 {
     let numbers = numbers_of(alloc, t)?;
@@ -33,7 +34,8 @@ fn place_with<S: StateStore>(
     numbers: &Numbers,
 ) -> Result<Ref, AllocError>
     requires { numbers.now ≡ variables t.now }
-    ensures ok { IfOk result (λ made. Gives (S.seen s.old) (S.seen s.new) (with_variables (new_variables t.now) (S.seen s.old).now.state) made (copy (next (S.seen s.old).now.state) t.now)) }
+    ensures ok { IfOk result (λ made. Gives (S.seen s.old) (S.seen s.new)
+        (with_variables (new_variables t.now) (S.seen s.old).now.state) made (copy (next (S.seen s.old).now.state) t.now)) }
     ensures err { OnErr result (MakesSome (S.seen s.old) (S.seen s.new)) }
 {
     make_variables(s, numbers.len())?;
@@ -86,7 +88,9 @@ fn put_node<S: StateStore>(
     requires ready { IsReady numbers.now built.old.items head }
     requires made { length numbers.now ≤ next (S.seen s.old).now.state }
     ensures stays { Stays (S.seen s.old) (S.seen s.new) }
-    ensures ok { IfOk result (λ made. (u : Tree) (ts : Trees) → ShowsHead u head.entry → AreBuilt (S.seen s.old) built.old.items ts → PutsNode (S.seen s.old) (S.seen s.new) (renumbered (S.seen s.old).now.state numbers.now) u built.old.items built.new.items made ts) }
+    ensures ok { IfOk result (λ made. (u : Tree) (ts : Trees) → ShowsHead u head.entry →
+        AreBuilt (S.seen s.old) built.old.items ts → PutsNode (S.seen s.old) (S.seen s.new)
+        (renumbered (S.seen s.old).now.state numbers.now) u built.old.items built.new.items made ts) }
 {
     match head {
         TermHead::Var(n) => Ok(new_variable(s, numbers, n)),

@@ -29,7 +29,9 @@ pub(crate) fn unify_roots<S: StateStore>(
     b: Ref,
 ) -> Result<Roots, AllocError>
     ensures keeps { Keeps (S.seen s.old) (S.seen s.new) }
-    ensures meets { IfOk result (λ roots. AreTerms (S.seen s.old) a b → Meets (S.seen s.old).now.state (root_of (S.seen s.old) a) (root_of (S.seen s.old) b) (outcome (S.seen s.old).now.state (root_of (S.seen s.old) a) (root_of (S.seen s.old) b)) roots (S.seen s.new).now.state) }
+    ensures meets { IfOk result (λ roots. AreTerms (S.seen s.old) a b →
+        Meets (S.seen s.old).now.state (root_of (S.seen s.old) a) (root_of (S.seen s.old) b)
+        (outcome (S.seen s.old).now.state (root_of (S.seen s.old) a) (root_of (S.seen s.old) b)) roots (S.seen s.new).now.state) }
     ensures clash { IfOk result (λ roots. roots ≡ Roots.Clash → (S.seen s.new).now.state ≡ (S.seen s.old).now.state) }
 {
     let left = s.look(a);
@@ -57,7 +59,10 @@ fn unify_variables<S: StateStore>(
     y: Variable,
 ) -> Result<Roots, AllocError>
     ensures keeps { Keeps (S.seen s.old) (S.seen s.new) }
-    ensures meets { IfOk result (λ roots. IsState (S.seen s.old).now.state → IsVariable (S.seen s.old) x → IsVariable (S.seen s.old) y → Meets (S.seen s.old).now.state (root_of (S.seen s.old) x.at) (root_of (S.seen s.old) y.at) (outcome (S.seen s.old).now.state (root_of (S.seen s.old) x.at) (root_of (S.seen s.old) y.at)) roots (S.seen s.new).now.state) }
+    ensures meets { IfOk result (λ roots. IsState (S.seen s.old).now.state → IsVariable (S.seen s.old) x →
+        IsVariable (S.seen s.old) y → Meets (S.seen s.old).now.state (root_of (S.seen s.old) x.at) (root_of (S.seen s.old) y.at)
+        (outcome (S.seen s.old).now.state (root_of (S.seen s.old) x.at) (root_of (S.seen s.old) y.at)) roots
+        (S.seen s.new).now.state) }
     ensures clash { IfOk result (λ roots. roots ≡ Roots.Clash → (S.seen s.new).now.state ≡ (S.seen s.old).now.state) }
 {
     if x.number == y.number {

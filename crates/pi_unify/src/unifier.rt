@@ -23,8 +23,12 @@ enum Step {
 /// the other, which gets their common values. After false or a refusal some of the bindings may stand.
 pub fn unify<S: StateStore>(alloc: Global, s: &mut S, a: Ref, b: Ref) -> Result<bool, AllocError>
     ensures keeps { Keeps (S.seen s.old) (S.seen s.new) }
-    ensures unifies { IfOk result (λ one. (t u : Tree) → IsState (S.seen s.old).now.state → IsTerm (S.seen s.old) a t → IsTerm (S.seen s.old) b u → SpeaksBelow (next (S.seen s.old).now.state) t → SpeaksBelow (next (S.seen s.old).now.state) u → Answers (unified (S.seen s.old).now.state t u) one (S.seen s.new).now.state) }
-    ensures state { IfOk result (λ _. (t u : Tree) → IsState (S.seen s.old).now.state → IsTerm (S.seen s.old) a t → IsTerm (S.seen s.old) b u → SpeaksBelow (next (S.seen s.old).now.state) t → SpeaksBelow (next (S.seen s.old).now.state) u → IsState (S.seen s.new).now.state) }
+    ensures unifies { IfOk result (λ one. (t u : Tree) → IsState (S.seen s.old).now.state → IsTerm (S.seen s.old) a t →
+        IsTerm (S.seen s.old) b u → SpeaksBelow (next (S.seen s.old).now.state) t → SpeaksBelow (next (S.seen s.old).now.state) u →
+        Answers (unified (S.seen s.old).now.state t u) one (S.seen s.new).now.state) }
+    ensures state { IfOk result (λ _. (t u : Tree) → IsState (S.seen s.old).now.state → IsTerm (S.seen s.old) a t →
+        IsTerm (S.seen s.old) b u → SpeaksBelow (next (S.seen s.old).now.state) t → SpeaksBelow (next (S.seen s.old).now.state) u →
+        IsState (S.seen s.new).now.state) }
 {
     let mut ahead = Vec::new(alloc);
     let mut left = a;
@@ -49,8 +53,10 @@ fn take_pair<S: StateStore>(
     ahead: &mut Vec<Rest<RefPair>>,
 ) -> Result<Step, AllocError>
     ensures keeps { Keeps (S.seen s.old) (S.seen s.new) }
-    ensures steps { IfOk result (λ step. IsState (S.seen s.old).now.state → IsNextPair (S.seen s.old) a b ahead.old.items → Steps (S.seen s.old) (pair_and (S.seen s.old) a b ahead.old.items) step (S.seen s.new) ahead.new.items) }
-    ensures state { IfOk result (λ _. IsState (S.seen s.old).now.state → IsNextPair (S.seen s.old) a b ahead.old.items → IsState (S.seen s.new).now.state) }
+    ensures steps { IfOk result (λ step. IsState (S.seen s.old).now.state → IsNextPair (S.seen s.old) a b ahead.old.items →
+        Steps (S.seen s.old) (pair_and (S.seen s.old) a b ahead.old.items) step (S.seen s.new) ahead.new.items) }
+    ensures state { IfOk result (λ _. IsState (S.seen s.old).now.state → IsNextPair (S.seen s.old) a b ahead.old.items →
+        IsState (S.seen s.new).now.state) }
 {
     match unify_roots(alloc, s, a, b)? {
         Roots::Clash => Ok(Step::Done(false)),
@@ -63,7 +69,8 @@ fn take_pair<S: StateStore>(
 }
 
 fn go_on<S: StateStore>(s: &S, ahead: &mut Vec<Rest<RefPair>>) -> Result<Step, AllocError>
-    ensures { IfOk result (λ step. IsState (S.seen s.now).now.state → ArePairs (S.seen s.now) ahead.old.items → GoesOn (S.seen s.now) (pairs_on (S.seen s.now) ahead.old.items []) step ahead.new.items) }
+    ensures { IfOk result (λ step. IsState (S.seen s.now).now.state → ArePairs (S.seen s.now) ahead.old.items →
+        GoesOn (S.seen s.now) (pairs_on (S.seen s.now) ahead.old.items []) step ahead.new.items) }
 {
     match next_pair(s, ahead)? {
         Some(next) => Ok(Step::Next(next.left, next.right)),

@@ -27,7 +27,8 @@ pub(crate) fn assign<S: StateStore>(
     r: Ref,
 ) -> Result<bool, AllocError>
     ensures keeps { Keeps (S.seen s.old) (S.seen s.new) }
-    ensures makes { IfOk result (λ one. IsAssigned (S.seen s.old) x r → Makes (assigned (S.seen s.old).now.state x.number (root_of (S.seen s.old) r)) one (S.seen s.new).now.state) }
+    ensures makes { IfOk result (λ one. IsAssigned (S.seen s.old) x r →
+        Makes (assigned (S.seen s.old).now.state x.number (root_of (S.seen s.old) r)) one (S.seen s.new).now.state) }
     ensures refused { IfOk result (λ one. one ≡ false → (S.seen s.new).now.state ≡ (S.seen s.old).now.state) }
 {
     let found = occurs(alloc, s, x.number, r)?;
@@ -44,7 +45,8 @@ pub(crate) fn assign<S: StateStore>(
 
 /// Whether a variable has no domain, or the term is a value of it.
 fn can_be<S: StateStore>(alloc: Global, s: &S, x: Variable, r: Ref) -> Result<bool, AllocError>
-    ensures { IfOk result (λ can. IsAssigned (S.seen s.now) x r → can ≡ admits (domain_of (S.seen s.now).now.state x.number) (root_of (S.seen s.now) r)) }
+    ensures { IfOk result (λ can. IsAssigned (S.seen s.now) x r →
+        can ≡ admits (domain_of (S.seen s.now).now.state x.number) (root_of (S.seen s.now) r)) }
 {
     match s.domain(alloc, x.at)? {
         None => Ok(true),
@@ -69,7 +71,8 @@ pub(crate) fn join<S: StateStore>(
     high: Variable,
 ) -> Result<bool, AllocError>
     ensures keeps { Keeps (S.seen s.old) (S.seen s.new) }
-    ensures makes { IfOk result (λ one. AreVariables (S.seen s.old) low high → Makes (joined (S.seen s.old).now.state low.number high.number) one (S.seen s.new).now.state) }
+    ensures makes { IfOk result (λ one. AreVariables (S.seen s.old) low high →
+        Makes (joined (S.seen s.old).now.state low.number high.number) one (S.seen s.new).now.state) }
     ensures refused { IfOk result (λ one. one ≡ false → (S.seen s.new).now.state ≡ (S.seen s.old).now.state) }
 {
     let high_domain = s.domain(alloc, high.at)?;
@@ -94,7 +97,9 @@ fn confine<S: StateStore>(
     both: &Domain,
 ) -> Result<bool, AllocError>
     ensures keeps { Keeps (S.seen s.old) (S.seen s.new) }
-    ensures makes { IfOk result (λ one. AreVariables (S.seen s.old) low high → IsDomain both.now → Makes (confined (S.seen s.old).now.state low.number high.number both.now (values_of both.now)) one (S.seen s.new).now.state) }
+    ensures makes { IfOk result (λ one. AreVariables (S.seen s.old) low high → IsDomain both.now →
+        Makes (confined (S.seen s.old).now.state low.number high.number both.now (values_of both.now)) one
+        (S.seen s.new).now.state) }
     ensures refused { IfOk result (λ one. one ≡ false → (S.seen s.new).now.state ≡ (S.seen s.old).now.state) }
 {
     let Some(least) = min(both) else {
@@ -116,7 +121,9 @@ fn narrow<S: StateStore>(
     d: &Domain,
 ) -> Result<(), AllocError>
     ensures keeps { Keeps (S.seen s.old) (S.seen s.new) }
-    ensures ok { OnOk result (AreVariables (S.seen s.old) low high → 2 ≤ size_of d.now → (S.seen s.new).now.state ≡ with_domain (with_binding (S.seen s.old).now.state high.number (var low.number)) low.number d.now) }
+    ensures ok { OnOk result (AreVariables (S.seen s.old) low high → 2 ≤ size_of d.now →
+        (S.seen s.new).now.state ≡ with_domain (with_binding (S.seen s.old).now.state high.number (var low.number)) low.number
+        d.now) }
 {
     s.bind(high.at, low.at)?;
     s.set_domain(low.at, d)
@@ -125,7 +132,9 @@ fn narrow<S: StateStore>(
 /// Binds the higher of two variables to the lower, and that to an integer.
 fn fix<S: StateStore>(s: &mut S, low: Variable, high: Variable, n: i128) -> Result<(), AllocError>
     ensures keeps { Keeps (S.seen s.old) (S.seen s.new) }
-    ensures ok { OnOk result (AreVariables (S.seen s.old) low high → (S.seen s.new).now.state ≡ with_binding (with_binding (S.seen s.old).now.state high.number (var low.number)) low.number (int n)) }
+    ensures ok { OnOk result (AreVariables (S.seen s.old) low high →
+        (S.seen s.new).now.state ≡ with_binding (with_binding (S.seen s.old).now.state high.number (var low.number)) low.number
+        (int n)) }
 {
     s.bind(high.at, low.at)?;
     let value = s.put_int(n)?;

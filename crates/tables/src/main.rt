@@ -3,9 +3,9 @@
 
 mod whole;
 
-use pi_cases::{Case, Subjects, run};
 use pi_outside::{Files, RealFiles};
 use std::process::ExitCode;
+use tables_cases::{Case, Subjects, run};
 
 /// All subjects, with the files of the outside.
 #[derive(Drop)]
@@ -15,15 +15,15 @@ struct Tables<F> {
 
 impl<R: Print + Input + AllocGlobal, F: Files> Subjects<R> for Tables<F> {
     fn answer_text(&mut self, _rt: &R, subject: &str, text: &str, line: &str, case: &Case) -> bool {
-        value_tables::answer_text(subject, line, case)
+        tables_values::answer_text(subject, line, case)
             || whole::answer_text(subject, text, line, case)
     }
 
     fn answer_words(&mut self, rt: &R, subject: &str, text: &str, case: &Case) -> bool {
-        run_tables::answer_words(subject, text, case)
-            || store_tables::answer_words(subject, text, case)
-            || value_tables::answer_words(subject, case)
-            || value_tables::answer_outside(rt, &mut self.files, subject, case)
+        tables_runs::answer_words(subject, text, case)
+            || tables_stores::answer_words(subject, text, case)
+            || tables_values::answer_words(subject, case)
+            || tables_values::answer_outside(rt, &mut self.files, subject, case)
     }
 }
 

@@ -4,7 +4,7 @@ mod runs;
 mod sessions;
 
 use crate::whole::runs::Failing;
-use pi_cases::Case;
+use tables_cases::Case;
 
 /// Answers a case of runs in a file with this text, and tells whether the subject is one of such cases.
 pub fn answer_text(subject: &str, text: &str, line: &str, case: &Case) -> bool {

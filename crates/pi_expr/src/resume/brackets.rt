@@ -4,13 +4,13 @@ ghost use Rattle.pi_syntax.specs.ExpTree.{ExpTree, ExpTrees};
 ghost use Rattle.pi_syntax.specs.ExpTree as tree;
 ghost use Rattle.pi_syntax.specs.Grammar.{post};
 ghost use Rattle.pi_syntax.specs.Terminals as t;
-ghost use Rattle.pi_phrases.specs.Machine as machine;
-ghost use Rattle.pi_phrases.specs.Shown.{terminals};
-ghost use Rattle.pi_phrases.specs.Trees.{Shows, ShowsItems};
-ghost use Rattle.pi_phrases.specs.Turns.{ShowsTurn, ShowsStep};
+ghost use Rattle.pi_expr_phrases.specs.Machine as machine;
+ghost use Rattle.pi_expr_phrases.specs.Shown.{terminals};
+ghost use Rattle.pi_expr_phrases.specs.Trees.{Shows, ShowsItems};
+ghost use Rattle.pi_expr_phrases.specs.Turns.{ShowsTurn, ShowsStep};
 
 use crate::made::{read_as, read_before};
-use pi_phrases::{Built, Frame, Items, Mark, Phrase, Terminals, Turn, behind, built};
+use pi_expr_phrases::{Built, Frame, Items, Mark, Phrase, Terminals, Turn, behind, built};
 use std::alloc::{AllocError, Global};
 
 pub(crate) fn pattern<'a>(
@@ -19,7 +19,8 @@ pub(crate) fn pattern<'a>(
     built: Built,
     ts: Terminals<'a>,
 ) -> Result<Turn<'a>, AllocError>
-    ensures { (fs : List machine.Frame) (e : ExpTree) → Shows built e → ShowsStep result fs (machine.resume (machine.pattern name.now) fs e (terminals ts.entry)) }
+    ensures { (fs : List machine.Frame) (e : ExpTree) → Shows built e →
+        ShowsStep result fs (machine.resume (machine.pattern name.now) fs e (terminals ts.entry)) }
 {
     read_as(Phrase::Prim, built::at(alloc, name, built), ts)
 }
@@ -30,7 +31,8 @@ pub(crate) fn parens<'a>(
     built: Built,
     ts: Terminals<'a>,
 ) -> Result<Turn<'a>, AllocError>
-    ensures { (fs : List machine.Frame) (e : ExpTree) → Shows built e → ShowsStep result fs (machine.resume (machine.parens quoted) fs e (terminals ts.entry)) }
+    ensures { (fs : List machine.Frame) (e : ExpTree) → Shows built e →
+        ShowsStep result fs (machine.resume (machine.parens quoted) fs e (terminals ts.entry)) }
 {
     read_before(Mark::CloseParen, in_parens(alloc, quoted, built), ts)
 }
@@ -52,7 +54,8 @@ pub(crate) fn list_tail<'a>(
     built: Built,
     ts: Terminals<'a>,
 ) -> Result<Turn<'a>, AllocError>
-    ensures { (fs : List machine.Frame) (es : ExpTrees) (e : ExpTree) → ShowsItems items es → Shows built e → ShowsStep result fs (machine.resume (machine.list_tail es) fs e (terminals ts.entry)) }
+    ensures { (fs : List machine.Frame) (es : ExpTrees) (e : ExpTree) → ShowsItems items es → Shows built e →
+        ShowsStep result fs (machine.resume (machine.list_tail es) fs e (terminals ts.entry)) }
 {
     read_before(
         Mark::CloseBracket,
@@ -68,7 +71,8 @@ pub(crate) fn indexing<'a>(
     built: Built,
     ts: Terminals<'a>,
 ) -> Result<Turn<'a>, AllocError>
-    ensures { (fs : List machine.Frame) (a : ExpTree) (e : ExpTree) → Shows of a → Shows built e → ShowsStep result fs (machine.resume (machine.indexing a) fs e (terminals ts.entry)) }
+    ensures { (fs : List machine.Frame) (a : ExpTree) (e : ExpTree) → Shows of a → Shows built e →
+        ShowsStep result fs (machine.resume (machine.indexing a) fs e (terminals ts.entry)) }
 {
     let index = built::index(alloc, of, built)?;
     match behind(Mark::Comma, ts) {
@@ -78,7 +82,9 @@ pub(crate) fn indexing<'a>(
 }
 
 fn close_index<'a>(index: Built, ts: Terminals<'a>) -> Turn<'a>
-    ensures { (fs : List machine.Frame) (e : ExpTree) → Shows index e → ShowsTurn result fs (machine.choose t.close_bracket (terminals ts.entry) (λ rest. machine.next (machine.value fs post true e rest)) machine.fail) }
+    ensures { (fs : List machine.Frame) (e : ExpTree) → Shows index e →
+        ShowsTurn result fs (machine.choose t.close_bracket (terminals ts.entry)
+        (λ rest. machine.next (machine.value fs post true e rest)) machine.fail) }
 {
     match behind(Mark::CloseBracket, ts) {
         Some(rest) => Turn::Found(Phrase::Post, true, index, rest),

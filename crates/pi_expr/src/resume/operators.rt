@@ -3,13 +3,13 @@ ghost use Rattle.std.specs.Prelude.{◌≡◌, false, List, ◌∷◌, None, Som
 ghost use Rattle.pi_syntax.specs.ExpTree.{ExpTree};
 ghost use Rattle.pi_syntax.specs.Grammar.{negated, integer_alone};
 ghost use Rattle.pi_syntax.specs.Terminals.{integer};
-ghost use Rattle.pi_phrases.specs.Machine as machine;
-ghost use Rattle.pi_phrases.specs.Shown.{line_shown, phrase_shown, terminals};
-ghost use Rattle.pi_phrases.specs.Trees.{Shows};
-ghost use Rattle.pi_phrases.specs.Turns.{ShowsStep};
+ghost use Rattle.pi_expr_phrases.specs.Machine as machine;
+ghost use Rattle.pi_expr_phrases.specs.Shown.{line_shown, phrase_shown, terminals};
+ghost use Rattle.pi_expr_phrases.specs.Trees.{Shows};
+ghost use Rattle.pi_expr_phrases.specs.Turns.{ShowsStep};
 
 use crate::made::read_as;
-use pi_phrases::{
+use pi_expr_phrases::{
     Ahead, Built, Frame, Line, Mark, Natural, Phrase, Terminal, Terminals, Turn, behind, built,
     front,
 };
@@ -22,7 +22,8 @@ pub(crate) fn signed<'a>(
     built: Built,
     ts: Terminals<'a>,
 ) -> Result<Turn<'a>, AllocError>
-    ensures { (fs : List machine.Frame) (e : ExpTree) → Shows built e → ShowsStep result fs (machine.resume (machine.signed (phrase_shown phrase) name.now) fs e (terminals ts.entry)) }
+    ensures { (fs : List machine.Frame) (e : ExpTree) → Shows built e →
+        ShowsStep result fs (machine.resume (machine.signed (phrase_shown phrase) name.now) fs e (terminals ts.entry)) }
 {
     read_as(phrase, built::call_of_one(alloc, name, built), ts)
 }
@@ -33,7 +34,8 @@ pub(crate) fn minus<'a>(
     built: Built,
     ts: Terminals<'a>,
 ) -> Result<Turn<'a>, AllocError>
-    ensures { (fs : List machine.Frame) (e : ExpTree) → Shows built e → ShowsStep result fs (machine.resume (machine.minus (terminals start.entry)) fs e (terminals ts.entry)) }
+    ensures { (fs : List machine.Frame) (e : ExpTree) → Shows built e →
+        ShowsStep result fs (machine.resume (machine.minus (terminals start.entry)) fs e (terminals ts.entry)) }
 {
     read_as(Phrase::Unary, negated(alloc, start, built, ts), ts)
 }
@@ -45,7 +47,8 @@ fn negated<'a>(
     built: Built,
     ts: Terminals<'a>,
 ) -> Result<Built, AllocError>
-    ensures { IfOk result (λ made. (e : ExpTree) → Shows built e → Shows made (negated (integer_alone (terminals start.entry) (terminals ts.entry)) e)) }
+    ensures { IfOk result (λ made. (e : ExpTree) → Shows built e →
+        Shows made (negated (integer_alone (terminals start.entry) (terminals ts.entry)) e)) }
 {
     match integer_alone(start, ts) {
         Some(natural) => {
@@ -58,7 +61,8 @@ fn negated<'a>(
 
 /// The integer that is all that stands before the rest.
 fn integer_alone<'a>(start: Terminals<'a>, ts: Terminals<'a>) -> Option<Natural>
-    ensures { MatchOption result (integer_alone (terminals start.entry) (terminals ts.entry) ≡ None) (λ n. integer_alone (terminals start.entry) (terminals ts.entry) ≡ Some n.value) }
+    ensures { MatchOption result (integer_alone (terminals start.entry) (terminals ts.entry) ≡ None)
+        (λ n. integer_alone (terminals start.entry) (terminals ts.entry) ≡ Some n.value) }
 {
     match front(start) {
         Ahead::Next(first, rest) => match first {
@@ -71,7 +75,8 @@ fn integer_alone<'a>(start: Terminals<'a>, ts: Terminals<'a>) -> Option<Natural>
 
 /// The integer, where nothing stands between it and the rest.
 fn alone<'a>(natural: Natural, behind: Terminals<'a>, ts: Terminals<'a>) -> Option<Natural>
-    ensures { MatchOption result (integer_alone (integer natural.value ∷ terminals behind.entry) (terminals ts.entry) ≡ None) (λ n. integer_alone (integer natural.value ∷ terminals behind.entry) (terminals ts.entry) ≡ Some n.value) }
+    ensures { MatchOption result (integer_alone (integer natural.value ∷ terminals behind.entry) (terminals ts.entry) ≡ None)
+        (λ n. integer_alone (integer natural.value ∷ terminals behind.entry) (terminals ts.entry) ≡ Some n.value) }
 {
     if behind.len() == ts.len() {
         Some(natural)
@@ -88,7 +93,8 @@ pub(crate) fn joining<'a>(
     built: Built,
     ts: Terminals<'a>,
 ) -> Result<Turn<'a>, AllocError>
-    ensures { (fs : List machine.Frame) (a : ExpTree) (e : ExpTree) → Shows left a → Shows built e → ShowsStep result fs (machine.resume (machine.joining (line_shown line) name.now a) fs e (terminals ts.entry)) }
+    ensures { (fs : List machine.Frame) (a : ExpTree) (e : ExpTree) → Shows left a → Shows built e →
+        ShowsStep result fs (machine.resume (machine.joining (line_shown line) name.now a) fs e (terminals ts.entry)) }
 {
     read_as(
         Phrase::Line(line),
@@ -104,7 +110,8 @@ pub(crate) fn relation<'a>(
     built: Built,
     ts: Terminals<'a>,
 ) -> Result<Turn<'a>, AllocError>
-    ensures { (fs : List machine.Frame) (a : ExpTree) (e : ExpTree) → Shows left a → Shows built e → ShowsStep result fs (machine.resume (machine.relation name.now a) fs e (terminals ts.entry)) }
+    ensures { (fs : List machine.Frame) (a : ExpTree) (e : ExpTree) → Shows left a → Shows built e →
+        ShowsStep result fs (machine.resume (machine.relation name.now a) fs e (terminals ts.entry)) }
 {
     read_as(
         Phrase::Relating,
@@ -119,7 +126,8 @@ pub(crate) fn range_from<'a>(
     built: Built,
     ts: Terminals<'a>,
 ) -> Result<Turn<'a>, AllocError>
-    ensures { (fs : List machine.Frame) (a : ExpTree) (e : ExpTree) → Shows first a → Shows built e → ShowsStep result fs (machine.resume (machine.range_from a) fs e (terminals ts.entry)) }
+    ensures { (fs : List machine.Frame) (a : ExpTree) (e : ExpTree) → Shows first a → Shows built e →
+        ShowsStep result fs (machine.resume (machine.range_from a) fs e (terminals ts.entry)) }
 {
     match behind(Mark::Dots, ts) {
         Some(rest) => Ok(Turn::Open(Frame::RangeStep(first, built), rest)),
@@ -134,7 +142,8 @@ pub(crate) fn range_step<'a>(
     built: Built,
     ts: Terminals<'a>,
 ) -> Result<Turn<'a>, AllocError>
-    ensures { (fs : List machine.Frame) (a : ExpTree) (b : ExpTree) (e : ExpTree) → Shows first a → Shows step b → Shows built e → ShowsStep result fs (machine.resume (machine.range_step a b) fs e (terminals ts.entry)) }
+    ensures { (fs : List machine.Frame) (a : ExpTree) (b : ExpTree) (e : ExpTree) → Shows first a → Shows step b → Shows built e →
+        ShowsStep result fs (machine.resume (machine.range_step a b) fs e (terminals ts.entry)) }
 {
     read_as(
         Phrase::Range,
@@ -149,7 +158,8 @@ pub(crate) fn power<'a>(
     built: Built,
     ts: Terminals<'a>,
 ) -> Result<Turn<'a>, AllocError>
-    ensures { (fs : List machine.Frame) (a : ExpTree) (e : ExpTree) → Shows base a → Shows built e → ShowsStep result fs (machine.resume (machine.power a) fs e (terminals ts.entry)) }
+    ensures { (fs : List machine.Frame) (a : ExpTree) (e : ExpTree) → Shows base a → Shows built e →
+        ShowsStep result fs (machine.resume (machine.power a) fs e (terminals ts.entry)) }
 {
     read_as(
         Phrase::Pow,

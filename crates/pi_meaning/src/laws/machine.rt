@@ -1,6 +1,6 @@
 //! Laws of the machine as data: what its steps do, and how a whole run stands to the meaning of its query.
-ghost use Rattle.pi_meaning.specs.Leads.{RemainingDoesMore, StartsWithTheMeaning, LeadsOn, DepthSuffices, EndedRunIsAll, RunBeforeTickBegins, EndedRunIsTheRun, SpentRunIsTheRun, RunIsAPrefix};
-ghost use Rattle.pi_meaning.specs.StepLaws.{StepsAreRight, StepsStayGood, StepsGetLighter, LevelsLeaveNothing};
+ghost use Rattle.pi_meaning.specs.Machine.Leads.{RemainingDoesMore, StartsWithTheMeaning, LeadsOn, DepthSuffices, EndedRunIsAll, RunBeforeTickBegins, EndedRunIsTheRun, SpentRunIsTheRun, RunIsAPrefix};
+ghost use Rattle.pi_meaning.specs.Machine.Laws.{StepsAreRight, StepsStayGood, StepsGetLighter, LevelsLeaveNothing};
 
 /// What remains of a run before a step is the step's Tick or answer and what remains after it. A step keeps what is true of
 /// each configuration, one without a Tick makes it lighter, and a level that is done with leaves nothing on the stack.

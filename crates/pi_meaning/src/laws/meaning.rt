@@ -1,5 +1,5 @@
 //! Laws of the core meaning.
-ghost use Rattle.pi_meaning.specs.MeaningLaws.{TabledOnlyAdds, WholeOnlyAdds, WholeKnowsWhatIsGiven, TabledIsWhole, GoalsDoMore, LevelsAreOrdered, LevelsAscend, QuietCallsStayAbove, QuietCallsKeepTheDepth, QuietCallsNestFreely, QueriesDoMore, WholeTracesStay, RunIsOne, DeeperRunsAreTheRun, DepthReachesTicks, EachQueryRuns, SoundQueriesRun, RunsKeepStates};
+ghost use Rattle.pi_meaning.specs.CoreMeaning.Laws.{TabledOnlyAdds, WholeOnlyAdds, WholeKnowsWhatIsGiven, TabledIsWhole, GoalsDoMore, LevelsAreOrdered, LevelsAscend, QuietCallsStayAbove, QuietCallsKeepTheDepth, QuietCallsNestFreely, QueriesDoMore, WholeTracesStay, RunIsOne, DeeperRunsAreTheRun, DepthReachesTicks, EachQueryRuns, SoundQueriesRun, RunsKeepStates};
 
 /// More depth only adds to calls by name, with the built-ins of the tables, and with all names of the language where it does to what later
 /// stages give.
@@ -14,7 +14,8 @@ pub fn names_are_given()
     ensures { WholeKnowsWhatIsGiven }
 {}
 
-/// A query that calls nothing but built-ins of the tables and what its program defines, by names that the language doesn't give, has the same trace
+/// A query that calls nothing but built-ins of the tables and what its program defines, by names that the language doesn't
+/// give, has the same trace
 /// with these built-ins alone as with all names of the language.
 pub fn tabled_is_whole()
     ensures { TabledIsWhole }
@@ -46,7 +47,8 @@ pub fn runs_are_one()
     ensures deeper { DeeperRunsAreTheRun }
 {}
 
-/// Where no later stage is there, and Ticks stand between the calls of quiet predicates, there is a depth that reaches to each Tick of a query's trace,
+/// Where no later stage is there, and Ticks stand between the calls of quiet predicates, there is a depth that reaches to each
+/// Tick of a query's trace,
 /// and so each query has its run.
 pub fn queries_run()
     ensures reaches { DepthReachesTicks }

@@ -1,7 +1,7 @@
 //! Laws of the meaning over names.
-ghost use Rattle.pi_meaning.specs.OtherNames.{OtherNamesChangeNothing};
-ghost use Rattle.pi_meaning.specs.Kinds.{NamesHaveTheirKinds};
-ghost use Rattle.pi_meaning.specs.NameLaws.{CallsGoByValues, ClausesCountAlone, FunctionsGoByValues, GoalsAreCalls, NamesDoMore, NamesRunsAreOne, NamesRunsReach, OtherNamesAreFree, SmallCallsAreSurface, SmallIsSurface, TextsMatchAsLists};
+ghost use Rattle.pi_meaning.specs.OverNames.OtherNames.{OtherNamesChangeNothing};
+ghost use Rattle.pi_meaning.specs.OverNames.Kinds.{NamesHaveTheirKinds};
+ghost use Rattle.pi_meaning.specs.OverNames.Laws.{CallsGoByValues, ClausesCountAlone, FunctionsGoByValues, GoalsAreCalls, NamesDoMore, NamesRunsAreOne, NamesRunsReach, OtherNamesAreFree, SmallCallsAreSurface, SmallIsSurface, TextsMatchAsLists};
 
 /// On the small language, of variables, integers, atoms, `=`, `true`, `fail`, calls and conjunctions, the meaning over names is that of
 /// `Surface`, which the proofs of lowering go through: for a goal from each place, and for each call.

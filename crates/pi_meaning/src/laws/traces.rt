@@ -1,9 +1,9 @@
 //! Laws of traces.
-ghost use Rattle.pi_meaning.specs.TraceLaws.{TraceIsEventsAndEnd, AltGoesOnWhereDone, AltIsTheFirstElse, DoneBeforeAddsNothing, DoneAfterAddsNothing, AltIsAssociative, ThenOfOneIsWhatFollows, ThenOneAddsNothing, ThenIsAssociative, ThenGoesOverAlt, ThenAtAnEnd, ThenAtANote, ThenAtAnAnswer, ThenKeepsNotes, AltKeepsEvents};
-ghost use Rattle.pi_meaning.specs.TraceLaws.{FirstHasNoOther, FirstStopsAtAnAnswer, FirstIsAllWithoutAnswers, ChosenIsThen, ChosenIsElse, NegatedIsChosen, CollectedIsTheList, CountedIsTheLength, CaughtGoesOn, CaughtIsTheRest, CaughtKeepsEvents, RaiseBehindIsNotCaught, CatchWithoutRaiseIsNone, CaughtRaiseIsFollowed};
-ghost use Rattle.pi_meaning.specs.TraceLaws.{FirstOverAlt, NegatedOverAlt, ChosenOverAlt, CollectedOverAlt, CountedOverAlt, CaughtOverAlt};
-ghost use Rattle.pi_meaning.specs.TraceLaws.{BelowIsReflexive, BelowIsTransitive, BelowIsAntisymmetric, WithoutDeepNothingIsAdded, DepthIsEnough, AltKeepsBelow, ThenKeepsBelow, FirstKeepsBelow, NegatedKeepsBelow, ChosenKeepsBelow, CollectedKeepsBelow, CountedKeepsBelow, CaughtKeepsBelow, EmitKeepsBelow, BelowKeepsEvents};
-ghost use Rattle.pi_meaning.specs.TraceLaws.{EmitIsAssociative, CutIsAPrefix, CutGoesOverEvents, CutStopsAtATick, CutLeavesFewerTicks, CutsTellTraces, BelowLeavesCuts, DepthsAgree};
+ghost use Rattle.pi_meaning.specs.Traces.Laws.{TraceIsEventsAndEnd, AltGoesOnWhereDone, AltIsTheFirstElse, DoneBeforeAddsNothing, DoneAfterAddsNothing, AltIsAssociative, ThenOfOneIsWhatFollows, ThenOneAddsNothing, ThenIsAssociative, ThenGoesOverAlt, ThenAtAnEnd, ThenAtANote, ThenAtAnAnswer, ThenKeepsNotes, AltKeepsEvents};
+ghost use Rattle.pi_meaning.specs.Traces.Laws.{FirstHasNoOther, FirstStopsAtAnAnswer, FirstIsAllWithoutAnswers, ChosenIsThen, ChosenIsElse, NegatedIsChosen, CollectedIsTheList, CountedIsTheLength, CaughtGoesOn, CaughtIsTheRest, CaughtKeepsEvents, RaiseBehindIsNotCaught, CatchWithoutRaiseIsNone, CaughtRaiseIsFollowed};
+ghost use Rattle.pi_meaning.specs.Traces.Laws.{FirstOverAlt, NegatedOverAlt, ChosenOverAlt, CollectedOverAlt, CountedOverAlt, CaughtOverAlt};
+ghost use Rattle.pi_meaning.specs.Traces.Laws.{BelowIsReflexive, BelowIsTransitive, BelowIsAntisymmetric, WithoutDeepNothingIsAdded, DepthIsEnough, AltKeepsBelow, ThenKeepsBelow, FirstKeepsBelow, NegatedKeepsBelow, ChosenKeepsBelow, CollectedKeepsBelow, CountedKeepsBelow, CaughtKeepsBelow, EmitKeepsBelow, BelowKeepsEvents};
+ghost use Rattle.pi_meaning.specs.Traces.Laws.{EmitIsAssociative, CutIsAPrefix, CutGoesOverEvents, CutStopsAtATick, CutLeavesFewerTicks, CutsTellTraces, BelowLeavesCuts, DepthsAgree};
 
 /// A trace is a list of events and an end, and an alternative goes on where the end is Done.
 pub fn ends<A>()

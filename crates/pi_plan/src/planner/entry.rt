@@ -16,7 +16,13 @@ pub(crate) fn entry_of(
     is_final: bool,
     successors: &Successors,
 ) -> Result<GivenState, AllocError>
-    ensures { (w : Way) → slice_get ways.now way ≡ Some w → w.rest < 2 ^ 127 → IfOk result (λ e. e ≡ record { state = w.place.state; rest = pos w.rest; is_final = is_final; successors = successors.now }) }
+    ensures { (w : Way) → slice_get ways.now way ≡ Some w → w.rest < 2 ^ 127 →
+        IfOk result (λ e. e ≡ record {
+          state = w.place.state;
+          rest = pos w.rest;
+          is_final = is_final;
+          successors = successors.now;
+        }) }
 {
     let Some(way) = way_at(ways, way) else {
         return Err(AllocError);

@@ -20,7 +20,8 @@ pub(crate) fn from_ready(
     limit: u128,
 ) -> Result<Stage, AllocError>
     ensures by_rest { search.new.by_rest ≡ search.old.by_rest }
-    ensures goes { (w : Wanted) (given : List GivenState) → w.start ≡ start.now → w.limit ≡ limit → IsReady w given search.old → IfOk result (StageIs w given search.new) }
+    ensures goes { (w : Wanted) (given : List GivenState) → w.start ≡ start.now → w.limit ≡ limit → IsReady w given search.old →
+        IfOk result (StageIs w given search.new) }
 {
     match advance(search, alloc, start, limit)? {
         Some(way) => Ok(Stage::Asked(way)),
@@ -38,7 +39,8 @@ pub(crate) fn from_given(
     way: usize,
 ) -> Result<Stage, AllocError>
     ensures by_rest { search.new.by_rest ≡ search.old.by_rest }
-    ensures goes { (w : Wanted) → w.start ≡ start.now → w.limit ≡ limit → IsAnswered w given.now search.old way → IfOk result (StageIs w given.now search.new) }
+    ensures goes { (w : Wanted) → w.start ≡ start.now → w.limit ≡ limit → IsAnswered w given.now search.old way →
+        IfOk result (StageIs w given.now search.new) }
 {
     let Some(entry) = last_of(given) else {
         return Err(AllocError);
@@ -58,7 +60,8 @@ fn last_of(given: &[GivenState]) -> Option<&GivenState>
 
 /// The end in the plan that a way is, where its state is final.
 fn found(search: &Search, alloc: Global, way: usize) -> Result<Stage, AllocError>
-    ensures { (w : Wanted) (given : List GivenState) → (h : IsAnswered w given search.now way) → h.entry.is_final ≡ true → IfOk result (StageIs w given search.now) }
+    ensures { (w : Wanted) (given : List GivenState) → (h : IsAnswered w given search.now way) → h.entry.is_final ≡ true →
+        IfOk result (StageIs w given search.now) }
 {
     let plan = plan_of(alloc, &search.ways, way)?;
     let Some(way) = way_at(&search.ways, way) else {

@@ -12,17 +12,17 @@ use Rattle.pi_syntax.specs.ProgramTree.{ProgramTree, goal_source}
 use Rattle.pi_syntax.specs.Tokens.{Token, Located, Var, Atom, Word, Int, Str, Sign, End}
 use Rattle.pi_syntax.specs.declared.program.Goal.{Goal}
 use Rattle.pi_prog.proofs.OneReadingLemmas.{one_goal}
-use Rattle.pi_clauses.specs.Calls.{Named, calls_among, first_unknown}
-use Rattle.pi_clauses.specs.Faults.{TellsGoalFault, IsTold, IsGoalTold, IsGoalFault, AnswersGoal}
-use Rattle.pi_clauses.specs.GoalVerdict.{GoalVerdict, a_goal, goal_is_faulty, calls_unknown, defined_by_program, unknown_goal, goal_verdict, JudgesGoal, goal_too_deep, no_goal, an_expression, HasGoalVerdict}
-use Rattle.pi_clauses.specs.Items.{are_bad_nodes}
+use Rattle.pi_prog_clauses.specs.Calls.{Named, calls_among, first_unknown}
+use Rattle.pi_prog_clauses.specs.Faults.{TellsGoalFault, IsTold, IsGoalTold, IsGoalFault, AnswersGoal}
+use Rattle.pi_prog_clauses.specs.GoalVerdict.{GoalVerdict, a_goal, goal_is_faulty, calls_unknown, defined_by_program, unknown_goal, goal_verdict, JudgesGoal, goal_too_deep, no_goal, an_expression, HasGoalVerdict}
+use Rattle.pi_prog_clauses.specs.Items.{are_bad_nodes}
 use Rattle.pi_prog.specs.Pieces.{is_end}
-use Rattle.pi_clauses.specs.Places.{goal, placed}
-use Rattle.pi_clauses.specs.Reading.{variable_names}
-use Rattle.pi_clauses.specs.Stretch.{without_end}
-use Rattle.pi_clauses.specs.Verdict.{TooDeep, BadClause, TooManyVariables, has_too_many_names, Unknown, is_unknown}
-use Rattle.pi_clauses.specs.declared.prog_fault.ProgFault.{ProgFault}
-use Rattle.pi_clauses.specs.declared.prog_fault.ProgFault.TheVariants as fault
+use Rattle.pi_prog_clauses.specs.Places.{goal, placed}
+use Rattle.pi_prog_clauses.specs.Reading.{variable_names}
+use Rattle.pi_prog_clauses.specs.Stretch.{without_end}
+use Rattle.pi_prog_clauses.specs.Verdict.{TooDeep, BadClause, TooManyVariables, has_too_many_names, Unknown, is_unknown}
+use Rattle.pi_prog_clauses.specs.declared.prog_fault.ProgFault.{ProgFault}
+use Rattle.pi_prog_clauses.specs.declared.prog_fault.ProgFault.TheVariants as fault
 
 -- the end
 

@@ -8,12 +8,12 @@ use Rattle.pi_expr.specs.Faults as faults
 use Rattle.pi_expr.proofs.CrowdLemmas.{stretch_none}
 use Rattle.pi_prog.specs.Parts.{Parts, none, next, SoFar}
 use Rattle.pi_prog.specs.Pieces.{ShowsPart, is_end}
-use Rattle.pi_clauses.specs.Reading as reading
-use Rattle.pi_clauses.specs.Reading.{Reading, ReadAll}
-use Rattle.pi_clauses.specs.Shown as shown
-use Rattle.pi_clauses.specs.Shown.{AreShown}
-use Rattle.pi_clauses.specs.Stretch.{Stretch, stretch, stretches, stretches_behind}
-use Rattle.pi_clauses.specs.declared.parts.PartReading.{PartReading}
+use Rattle.pi_prog_clauses.specs.Reading as reading
+use Rattle.pi_prog_clauses.specs.Reading.{Reading, ReadAll}
+use Rattle.pi_prog_clauses.specs.Shown as shown
+use Rattle.pi_prog_clauses.specs.Shown.{AreShown}
+use Rattle.pi_prog_clauses.specs.Stretch.{Stretch, stretch, stretches, stretches_behind}
+use Rattle.pi_prog_clauses.specs.declared.parts.PartReading.{PartReading}
 use Rattle.pi_prog.proofs.reading.PlaceLemmas.{stretch_more, length-stretch}
 
 parts_more : {ss : List Stretch} {ps : List PartReading} (s : Stretch) (p : PartReading) → Parts ss ps → ShowsPart s p → Parts (ss ++ s ∷ []) (ps ++ p ∷ [])

@@ -4,15 +4,15 @@ use Rattle.pi_syntax.specs.Crowding.{IsCrowded}
 use Rattle.pi_expr.specs.declared.fault.ExpFault.TheVariants as fault
 use Rattle.pi_syntax.specs.Tokens.{Token}
 use Rattle.pi_syntax.specs.declared.program.Mode.{Mode}
-use Rattle.pi_clauses.specs.Declaration.{Opening, undeclared, importing, indexing, misdeclared, Opens}
+use Rattle.pi_prog_clauses.specs.Declaration.{Opening, undeclared, importing, indexing, misdeclared, Opens}
 use Rattle.pi_prog.specs.Pieces.{ShowsPart, IsMarkedOf, IsShapeFault, IsClauseOf}
-use Rattle.pi_clauses.specs.Reading as spec
-use Rattle.pi_clauses.specs.Reading.{whole, behind_index, variable_names}
-use Rattle.pi_clauses.specs.Stretch.{stretch}
+use Rattle.pi_prog_clauses.specs.Reading as spec
+use Rattle.pi_prog_clauses.specs.Reading.{whole, behind_index, variable_names}
+use Rattle.pi_prog_clauses.specs.Stretch.{stretch}
 use Rattle.pi_prog.specs.declared.reading.MarkedClause.{MarkedClause}
-use Rattle.pi_clauses.specs.declared.parts.PartReading.{PartReading}
-use Rattle.pi_clauses.specs.declared.parts.PartReading.TheVariants as part
-use Rattle.pi_clauses.specs.declared.parts.WrittenPart.{WrittenPart}
+use Rattle.pi_prog_clauses.specs.declared.parts.PartReading.{PartReading}
+use Rattle.pi_prog_clauses.specs.declared.parts.PartReading.TheVariants as part
+use Rattle.pi_prog_clauses.specs.declared.parts.WrittenPart.{WrittenPart}
 
 pub part_crowded : (ts : List Token) (ended : Bool) → IsCrowded ts → ShowsPart (stretch ts ended) part.TooDeep
 part_crowded ts ended h = (spec.too_deep, spec.crowded h, tt)

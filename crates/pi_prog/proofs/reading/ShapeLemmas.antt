@@ -14,8 +14,8 @@ use Rattle.pi_expr.specs.declared.fault.ExpFault.{ExpFault}
 use Rattle.pi_expr.specs.declared.fault.ExpFault.TheVariants as fault
 use Rattle.pi_expr.proofs.CrowdLemmas.{stretch_step, stretch_none}
 use Rattle.pi_prog.specs.Pieces.{IsShape, IsShapeFault, sides_at}
-use Rattle.pi_clauses.specs.Reading.{HasNoShape, IsDeepShape}
-use Rattle.pi_clauses.specs.Shape.{bare, ruled, HasShape, without_arrow, with_arrow, Sides, sides, sides_by, with_left, arrow_of}
+use Rattle.pi_prog_clauses.specs.Reading.{HasNoShape, IsDeepShape}
+use Rattle.pi_prog_clauses.specs.Shape.{bare, ruled, HasShape, without_arrow, with_arrow, Sides, sides, sides_by, with_left, arrow_of}
 use Rattle.pi_prog.specs.declared.reading.shape.ReadShape.TheVariants as shape
 use Rattle.pi_prog.proofs.reading.BalanceLemmas.{exp_balances}
 use Rattle.pi_prog.proofs.reading.CrowdingLemmas.{few_in_front, few_behind, balanced_more}

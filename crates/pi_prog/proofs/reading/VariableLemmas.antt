@@ -18,8 +18,8 @@ use Rattle.pi_syntax.specs.Tokens.{Token, Var, Atom, Word, Int, Str, Sign, End}
 use Rattle.pi_expr.specs.Faults.{stretch}
 use Rattle.pi_expr.proofs.CrowdLemmas.{stretch_step, stretch_none}
 use Rattle.pi_prog.specs.Pieces.{HoldsNames, named_before}
-use Rattle.pi_clauses.specs.Reading.{variable_names}
-use Rattle.pi_clauses.specs.Verdict.{different, most_names, has_too_many_names}
+use Rattle.pi_prog_clauses.specs.Reading.{variable_names}
+use Rattle.pi_prog_clauses.specs.Verdict.{different, most_names, has_too_many_names}
 use Rattle.pi_prog.proofs.reading.PlaceLemmas.{stretch_split}
 
 abbrev Key : Type 0

@@ -3,7 +3,7 @@ ghost use Rattle.std.specs.Prelude.{◌≡◌, ◌≤◌, ◌<◌, Some, None, l
 ghost use Rattle.pi_lex.specs.Kinds.{kinds, token_shown};
 ghost use Rattle.pi_syntax.specs.Crowding.{IsCrowded};
 ghost use Rattle.pi_expr.specs.Faults.{stretch};
-ghost use Rattle.pi_clauses.specs.Shape as spec;
+ghost use Rattle.pi_prog_clauses.specs.Shape as spec;
 ghost use Rattle.pi_prog.specs.Pieces.{sides_at, ShowsArrow, IsShape, IsShapeFault};
 
 use pi_expr::{ExpFault, read_uncrowded};

@@ -1,7 +1,7 @@
 //! Where parts end.
 ghost use Rattle.std.specs.Prelude.{◌≡◌};
 ghost use Rattle.pi_lex.specs.Kinds.{token_shown};
-ghost use Rattle.pi_clauses.specs.Declaration as declaration;
+ghost use Rattle.pi_prog_clauses.specs.Declaration as declaration;
 ghost use Rattle.pi_prog.specs.Pieces as pieces;
 
 use pi_lex::TokenKind;

@@ -3,8 +3,8 @@ ghost use Rattle.std.specs.Prelude.{◌≡◌, ◌≤◌, List, ℕ, length, IfO
 ghost use Rattle.pi_lex.specs.Kinds.{kinds, token_shown};
 ghost use Rattle.pi_expr.specs.Faults.{stretch};
 ghost use Rattle.pi_prog.specs.Pieces.{HoldsNames, named_before};
-ghost use Rattle.pi_clauses.specs.Reading as reading;
-ghost use Rattle.pi_clauses.specs.Verdict as verdict;
+ghost use Rattle.pi_prog_clauses.specs.Reading as reading;
+ghost use Rattle.pi_prog_clauses.specs.Verdict as verdict;
 
 use crate::MAX_NAMES;
 use pi_lex::{TokenKind, Tokens};
@@ -37,7 +37,8 @@ pub(crate) fn has_too_many_names(
 
 /// Adds the name that the token is, where it is a variable.
 fn add_name<'a>(names: &mut BTreeSet<&'a str>, token: TokenKind<'a>) -> Result<(), AllocError>
-    ensures { OnOk result ((ns : List (List ℕ)) → HoldsNames names.old.keys ns → HoldsNames names.new.keys (named_before (token_shown token.entry) ns)) }
+    ensures { OnOk result ((ns : List (List ℕ)) → HoldsNames names.old.keys ns →
+        HoldsNames names.new.keys (named_before (token_shown token.entry) ns)) }
 {
     match token {
         TokenKind::Var(name) => {

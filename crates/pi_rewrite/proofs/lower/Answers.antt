@@ -2,7 +2,7 @@
 use Rattle.std.proofs.Common.{◌≡◌, ◌∙◌, None, sym}
 use Rattle.pi_core.specs.CoreTree.{program_tree}
 use Rattle.pi_syntax.specs.ProgramTree.{source_tree}
-use Rattle.pi_sound.specs.Built.{unbuilt_part}
+use Rattle.pi_rewrite_sound.specs.Built.{unbuilt_part}
 use Rattle.pi_rewrite.proofs.LawLemmas.{lowered-program}
 use Rattle.pi_rewrite.proofs.lower.Goals as goal
 

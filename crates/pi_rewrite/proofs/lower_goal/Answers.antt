@@ -3,8 +3,8 @@ use Rattle.std.proofs.Common.{List, map, ap, ◌∙◌, sym}
 use Rattle.pi_core.specs.CoreTree.{pred_tree, program_tree, query_tree}
 use Rattle.pi_core.specs.declared.core_program.CorePred.{CorePred}
 use Rattle.pi_syntax.specs.ProgramTree.{goal_source}
-use Rattle.pi_lowered.specs.Programs.{core_query}
-use Rattle.pi_sites.specs.OwnNames.{own_name}
+use Rattle.pi_rewrite_spec.specs.Programs.{core_query}
+use Rattle.pi_rewrite_sites.specs.OwnNames.{own_name}
 use Rattle.pi_rewrite.specs.Built.{query_prefix}
 use Rattle.pi_rewrite.proofs.LawLemmas.{lowered-goal}
 use Rattle.pi_rewrite.proofs.lower_goal.Goals as goal

@@ -1,7 +1,8 @@
 //! Laws of agents.
 ghost use Rattle.pi_settling.specs.AgentLaws.{DrainingNothing, EndedArePassedOver, FirstInFirstOut, DrainingDoesMore};
 
-/// Draining nothing is nothing. Of what waits the first runs first, and what comes of it is drained; what an ended agent waits for is passed over.
+/// Draining nothing is nothing. Of what waits the first runs first, and what comes of it is drained; what an ended agent waits
+/// for is passed over.
 pub fn what_waits_runs_in_order<X>()
     ensures nothing { DrainingNothing X }
     ensures ended { EndedArePassedOver X }

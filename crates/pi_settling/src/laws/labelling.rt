@@ -2,7 +2,8 @@
 ghost use Rattle.pi_settling.specs.KeepLaws.{AnswersPartTheSolutions, LabellingEnds, LabellingKeepsSolutions};
 ghost use Rattle.pi_settling.specs.LabelLaws.{AlternativesPartTheDomain, LeftIsADomain, LeftIsAllowed, NarrowingKeepsSolutions, ConfinedHaveDomains, ConfiningBindsNothing, LabellingNothing, LabellingDoesMore, SolvingDoesMore, FirstIsOne, FirstOfAll, SatSolvedIsOne};
 
-/// The alternatives of a variable part its domain: each value is allowed by one of them, and by no other, and that one leaves it. What one leaves is a domain, and a state that it narrows has
+/// The alternatives of a variable part its domain: each value is allowed by one of them, and by no other, and that one leaves
+/// it. What one leaves is a domain, and a state that it narrows has
 /// those solutions whose value it allows.
 pub fn alternatives_part_the_domain()
     ensures parts { AlternativesPartTheDomain }
@@ -31,7 +32,8 @@ pub fn first_assignments_are_one()
     ensures sat { SatSolvedIsOne }
 {}
 
-/// A labelling comes to its end at some depth. There its answers have together just the solutions of the state in which it began, and each solution is one of one answer.
+/// A labelling comes to its end at some depth. There its answers have together just the solutions of the state in which it
+/// began, and each solution is one of one answer.
 pub fn labelling_keeps_solutions()
     ensures ends { LabellingEnds }
     ensures kept { LabellingKeepsSolutions }

@@ -12,7 +12,8 @@ pub fn runs_reach_stable_domains()
     ensures emptied { FailuresEmpty }
 {}
 
-/// The runs and the constraints that are still due are no more than those that were due at the start and, for each constraint, the values that its variables lost.
+/// The runs and the constraints that are still due are no more than those that were due at the start and, for each constraint,
+/// the values that its variables lost.
 pub fn runs_are_bounded()
     ensures { RunsAreBounded }
 {}

@@ -8,7 +8,8 @@ pub fn stable_states_are_one()
     ensures ways { SettlingIsOne }
 {}
 
-/// The stable domains lie below those of the state, lose no solution, and are the greatest that no filter changes. A state and its stable state have the same solutions,
+/// The stable domains lie below those of the state, lose no solution, and are the greatest that no filter changes. A state and
+/// its stable state have the same solutions,
 /// and the stable state is a state that may be settled.
 pub fn stable_domains_are_the_greatest()
     ensures below { StableLiesBelow }

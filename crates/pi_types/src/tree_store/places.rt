@@ -44,7 +44,8 @@ impl TreeState {
 
     /// The span of a variable with this number, counted from 0.
     pub fn span(&self, n: u64, k: usize) -> Span
-        ensures { k < length (unwrap_or (known_domain_in self.now n) []) → slice_get (unwrap_or (known_domain_in self.now n) []) k ≡ Some result }
+        ensures { k < length (unwrap_or (known_domain_in self.now n) []) →
+            slice_get (unwrap_or (known_domain_in self.now n) []) k ≡ Some result }
     {
         match self.domain_ref(n) {
             Some(domain) => span_of(domain, k),

@@ -20,7 +20,8 @@ const MOST_CELLS: usize = 16777216;
 impl TreeState {
     /// A term with bindings replaced throughout.
     pub fn read(&self, alloc: Global, atoms: &Atoms, r: Ref) -> Result<Term, ReadStop>
-        ensures { (t : Tree) → IsReadable atoms.now self.now r t → ShowsRead (value (bindings (state_of (trees_of atoms.now self.now) self.now)) t) result }
+        ensures { (t : Tree) → IsReadable atoms.now self.now r t →
+            ShowsRead (value (bindings (state_of (trees_of atoms.now self.now) self.now)) t) result }
     {
         let cells = self.bare_cells(alloc, atoms, r)?;
         Ok(Term::from_bare(cells))
@@ -29,7 +30,10 @@ impl TreeState {
     /// Its cells in prefix order, without the sizes of compounds.
     fn bare_cells(&self, alloc: Global, atoms: &Atoms, r: Ref) -> Result<Vec<TermCell>, ReadStop>
         ensures spelt { IfOk result (λ made. (u : Tree) × (made.items ≡ bare u)) }
-        ensures reads { (t : Tree) → IsReadable atoms.now self.now r t → MatchResult result (λ made. (made.items ≡ bare (value (bindings (state_of (trees_of atoms.now self.now) self.now)) t)) × (cells (value (bindings (state_of (trees_of atoms.now self.now) self.now)) t) ≤ most_cells)) (StopsAt (value (bindings (state_of (trees_of atoms.now self.now) self.now)) t)) }
+        ensures reads { (t : Tree) → IsReadable atoms.now self.now r t →
+            MatchResult result (λ made. (made.items ≡ bare (value (bindings (state_of (trees_of atoms.now self.now) self.now)) t)) ×
+            (cells (value (bindings (state_of (trees_of atoms.now self.now) self.now)) t) ≤ most_cells))
+            (StopsAt (value (bindings (state_of (trees_of atoms.now self.now) self.now)) t)) }
     {
         let mut read = Vec::new(alloc);
         let mut stack = Vec::new(alloc);
@@ -57,7 +61,8 @@ impl TreeState {
         read: &mut Vec<TermCell>,
         stack: &mut Vec<Ref>,
     ) -> Result<(), AllocError>
-        ensures read { IfOk result (λ _. read.new.items ≡ read.old.items ++ entered_cell atoms.now (length self.now.variables) (slice_get self.now.terms r.number) ∷ []) }
+        ensures read { IfOk result (λ _. read.new.items ≡
+            read.old.items ++ entered_cell atoms.now (length self.now.variables) (slice_get self.now.terms r.number) ∷ []) }
         ensures stack { IfOk result (λ _. stack.new.items ≡ stack.old.items ++ turned (entered_args (slice_get self.now.terms r.number))) }
     {
         let cell = self.bare_cell(alloc, atoms, r)?;

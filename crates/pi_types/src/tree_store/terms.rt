@@ -67,7 +67,8 @@ impl TreeState {
 
     /// The compound with this name and these arguments, and without arguments where the state lacks one of them.
     pub fn compound(&self, alloc: Global, name: u64, args: &[Ref]) -> Result<StoredTerm, AllocError>
-        ensures all { IfOk result (λ made. AllBelow (length self.now.terms) args.now → made ≡ StoredTerm.Comp name args.now (all_ground_in self.now args.now)) }
+        ensures all { IfOk result (λ made. AllBelow (length self.now.terms) args.now →
+            made ≡ StoredTerm.Comp name args.now (all_ground_in self.now args.now)) }
         ensures lacks { IfOk result (λ made. ¬ (AllBelow (length self.now.terms) args.now) → made ≡ StoredTerm.Comp name [] true) }
     {
         if !self.has_all(args) {

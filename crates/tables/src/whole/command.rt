@@ -1,9 +1,10 @@
 //! Command lines: `--steps 1 FILE: p(X) => X = 1. ⊢ p(X), q(X)`. First stand the words between blanks, then behind `:` what
-//! the file `FILE` holds, and behind `⊢` one more word, in which blanks stand as they are. Where there is no `:`, the lines that begin with `&` are the text
-//! in `FILE`. Words and texts may have escapes and pieces that are repeated: see `bytes_of` of `pi_cases`.
+//! the file `FILE` holds, and behind `⊢` one more word, in which blanks stand as they are. Where there is no `:`, the lines
+//! that begin with `&` are the text
+//! in `FILE`. Words and texts may have escapes and pieces that are repeated: see `bytes_of` of `tables_cases`.
 
-use pi_cases::{Case, bytes_of};
 use pi_outside::MemoryFiles;
+use tables_cases::{Case, bytes_of};
 
 /// The name of the file.
 const FILE: &str = "FILE";

@@ -1,10 +1,10 @@
 //! Runs of the whole program: their status, and what they write, with `\n` for a line feed.
 
 use crate::whole::command::{ASKED, HOLDS, files_of, parts, words_of};
-use pi_cases::Case;
 use pi_outside::{MemoryFiles, MemorySink, SureSource};
 use pi_top::{Outcome, picatq};
 use std::str;
+use tables_cases::Case;
 
 /// How many bytes a run writes at most.
 pub(crate) const ROOM: usize = 4_000;

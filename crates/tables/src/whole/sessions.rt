@@ -6,9 +6,9 @@ ghost use Rattle.std.specs.Prelude.{◌≤◌};
 
 use crate::whole::command::{ASKED, HOLDS, files_of, parts, push_word};
 use crate::whole::runs::{ROOM, tell_outcome};
-use pi_cases::{Case, bytes_of};
 use pi_outside::{MemoryFiles, MemorySink, MemorySource};
 use pi_top::picatq_limited;
+use tables_cases::{Case, bytes_of};
 
 /// How many bytes a read of the input gives at most, where a case doesn't say so.
 const PIECE: u64 = 65_536;

@@ -1,5 +1,5 @@
 use Rattle.std.proofs.Common.{sym, subst}
-use Rattle.pi_arenas.specs.Arenas.{view_of}
+use Rattle.pi_engine_arenas.specs.Arenas.{view_of}
 use Rattle.pi_engine.specs.Turns.{IsRunning}
 use Rattle.pi_engine.proofs.RunBegins.{run-begun}
 use Rattle.pi_engine.proofs.begin.begin.Goals as goal

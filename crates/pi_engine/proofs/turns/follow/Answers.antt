@@ -1,9 +1,9 @@
 use Rattle.std.proofs.Common.{sym, ap, subst}
-use Rattle.pi_arenas.specs.declared.run.Now.{Now}
-use Rattle.pi_arenas.specs.Arenas.{view_of}
-use Rattle.pi_stands.specs.Stands.{world}
-use Rattle.pi_stands.proofs.FollowStand.{frame-followed}
-use Rattle.pi_stands.proofs.OnceStand.{AnswersTo}
+use Rattle.pi_engine_arenas.specs.declared.run.Now.{Now}
+use Rattle.pi_engine_arenas.specs.Arenas.{view_of}
+use Rattle.pi_engine_stands.specs.Stands.{world}
+use Rattle.pi_engine_stands.proofs.FollowStand.{frame-followed}
+use Rattle.pi_engine_stands.proofs.OnceStand.{AnswersTo}
 use Rattle.pi_engine.proofs.turns.follow.Goals as goal
 
 pub returns : goal.returns

@@ -1,9 +1,9 @@
 use Rattle.std.proofs.Common.{◌≡◌, sym, ◌∙◌, subst, refl, arith}
-use Rattle.pi_arenas.specs.Arenas.{view_of}
-use Rattle.pi_stands.specs.Answers.{AnswersQuery}
-use Rattle.pi_meaning.specs.Next.{Tells}
-use Rattle.pi_stands.specs.Stands.{World, world}
-use Rattle.pi_stands.proofs.PointsDone.{follows-goes, level-goes, query-answers, query-raised}
+use Rattle.pi_engine_arenas.specs.Arenas.{view_of}
+use Rattle.pi_engine_stands.specs.Answers.{AnswersQuery}
+use Rattle.pi_meaning.specs.Machine.Next.{Tells}
+use Rattle.pi_engine_stands.specs.Stands.{World, world}
+use Rattle.pi_engine_stands.proofs.PointsDone.{follows-goes, level-goes, query-answers, query-raised}
 use Rattle.pi_engine.proofs.TurnsGo.{silent-is, more-is, answer-is}
 use Rattle.pi_engine.proofs.turns.go_on.Goals as goal
 

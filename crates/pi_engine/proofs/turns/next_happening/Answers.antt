@@ -1,9 +1,9 @@
 use Rattle.std.proofs.Common.{◌∙◌, refl, sym, ap, subst}
-use Rattle.pi_arenas.specs.declared.run.End.{End}
-use Rattle.pi_arenas.specs.declared.run.Now.{Now}
-use Rattle.pi_arenas.specs.Arenas.{view_of}
-use Rattle.pi_stands.specs.Stands.{world}
-use Rattle.pi_meaning.proofs.BudgetLemmas.{counts_none, counts_then}
+use Rattle.pi_engine_arenas.specs.declared.run.End.{End}
+use Rattle.pi_engine_arenas.specs.declared.run.Now.{Now}
+use Rattle.pi_engine_arenas.specs.Arenas.{view_of}
+use Rattle.pi_engine_stands.specs.Stands.{world}
+use Rattle.pi_meaning.proofs.Machine.BudgetLemmas.{counts_none, counts_then}
 use Rattle.pi_engine.specs.Happens.{IsBuiltSoFar}
 use Rattle.pi_engine.specs.Turns.{StepIs, RunsAfter}
 use Rattle.pi_engine.proofs.NextTurns.{running-of, lasts-memory, built-ended, no-turns, one-turn, end-comes, memory-comes, answer-comes, told-comes}

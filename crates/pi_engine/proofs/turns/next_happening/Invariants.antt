@@ -1,5 +1,5 @@
-use Rattle.pi_arenas.specs.Arenas.{view_of}
-use Rattle.pi_stands.specs.Stands.{world}
+use Rattle.pi_engine_arenas.specs.Arenas.{view_of}
+use Rattle.pi_engine_stands.specs.Stands.{world}
 use Rattle.pi_engine.proofs.NextTurns.{SoFar}
 use Rattle.pi_engine.proofs.turns.next_happening.Given as goal
 

@@ -1,10 +1,10 @@
 use Rattle.std.proofs.Common.{◌<◌, refl, sym, subst, arith}
-use Rattle.pi_arenas.specs.declared.run.Now.{Now}
-use Rattle.pi_arenas.specs.Arenas.{view_of}
-use Rattle.pi_stands.specs.Goes.{IsAt, IsIn}
-use Rattle.pi_stands.specs.Stands.{World, Stands, world}
+use Rattle.pi_engine_arenas.specs.declared.run.Now.{Now}
+use Rattle.pi_engine_arenas.specs.Arenas.{view_of}
+use Rattle.pi_engine_stands.specs.Goes.{IsAt, IsIn}
+use Rattle.pi_engine_stands.specs.Stands.{World, Stands, world}
 use Rattle.pi_engine.specs.Turns.{StepIs, IsRunning, RunsAfter}
-use Rattle.pi_stands.proofs.StopsGo.{so-at-err}
+use Rattle.pi_engine_stands.proofs.StopsGo.{so-at-err}
 use Rattle.pi_engine.proofs.TurnsGo.{stops-there, ticks-is, told-is, fails-is, raises-is}
 use Rattle.pi_engine.proofs.turns.step.Goals as goal
 

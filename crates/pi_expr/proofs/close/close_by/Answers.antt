@@ -1,5 +1,5 @@
 use Rattle.std.proofs.Common.{refl, sym}
-use Rattle.pi_phrases.specs.Machine as m
+use Rattle.pi_expr_phrases.specs.Machine as m
 use Rattle.pi_expr.proofs.TurnLemmas.{units_with}
 use Rattle.pi_expr.proofs.close.close_by.Goals as goal
 

@@ -1,5 +1,5 @@
 use Rattle.std.proofs.Common.{refl}
-use Rattle.pi_phrases.specs.Machine as m
+use Rattle.pi_expr_phrases.specs.Machine as m
 use Rattle.pi_expr.proofs.close.close_list.Goals as goal
 
 pub returns-in_ok-more-in-Some : goal.returns-in_ok-more-in-Some

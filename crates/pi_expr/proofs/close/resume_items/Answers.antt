@@ -1,5 +1,5 @@
 use Rattle.std.proofs.Common.{refl}
-use Rattle.pi_phrases.specs.Machine as m
+use Rattle.pi_expr_phrases.specs.Machine as m
 use Rattle.pi_expr.proofs.TurnLemmas.{units_with}
 use Rattle.pi_expr.proofs.close.resume_items.Goals as goal
 

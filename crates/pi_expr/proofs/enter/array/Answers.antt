@@ -1,5 +1,5 @@
 use Rattle.std.proofs.Common.{refl}
-use Rattle.pi_phrases.specs.Machine as m
+use Rattle.pi_expr_phrases.specs.Machine as m
 use Rattle.pi_syntax.specs.ExpTree.{no_exps}
 use Rattle.pi_syntax.specs.ExpTree as tree
 use Rattle.pi_expr.proofs.enter.array.Goals as goal

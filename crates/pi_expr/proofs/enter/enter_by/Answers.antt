@@ -1,6 +1,6 @@
 use Rattle.std.proofs.Common.{refl, subst, ℤ, rules}
 use Rattle.pi_syntax.specs.ExpTree.{int, str}
-use Rattle.pi_phrases.specs.Trees.{Shows}
+use Rattle.pi_expr_phrases.specs.Trees.{Shows}
 use Rattle.pi_expr.proofs.enter.enter_by.Goals as goal
 
 pub returns-in-Variable : goal.returns-in-Variable

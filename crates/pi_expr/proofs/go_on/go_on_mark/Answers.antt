@@ -1,5 +1,5 @@
 use Rattle.std.proofs.Common.{refl, sym}
-use Rattle.pi_phrases.specs.Machine as m
+use Rattle.pi_expr_phrases.specs.Machine as m
 use Rattle.pi_expr.proofs.StepLemmas.{continues_no}
 use Rattle.pi_syntax.specs.ExpTree.{one_exp, no_exps}
 use Rattle.pi_expr.proofs.go_on.go_on_mark.Goals as goal

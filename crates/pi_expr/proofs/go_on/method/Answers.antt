@@ -1,5 +1,5 @@
 use Rattle.std.proofs.Common.{refl}
-use Rattle.pi_phrases.specs.Machine as m
+use Rattle.pi_expr_phrases.specs.Machine as m
 use Rattle.pi_syntax.specs.ExpTree.{one_exp}
 use Rattle.pi_syntax.specs.Grammar.{call_one}
 use Rattle.pi_expr.proofs.go_on.method.Goals as goal

@@ -1,5 +1,5 @@
 use Rattle.std.proofs.Common.{refl, []}
-use Rattle.pi_phrases.specs.Machine as m
+use Rattle.pi_expr_phrases.specs.Machine as m
 use Rattle.pi_expr.proofs.ReaderLemmas.{same_start, same_step, ends_none, steps_smaller}
 use Rattle.pi_expr.proofs.reader.read.Goals as goal
 

@@ -1,6 +1,6 @@
 use Rattle.std.proofs.Common.{◌+◌, ◌*◌, length}
-use Rattle.pi_phrases.specs.Machine.{State, begin}
-use Rattle.pi_phrases.specs.Shown.{terminals}
+use Rattle.pi_expr_phrases.specs.Machine.{State, begin}
+use Rattle.pi_expr_phrases.specs.Shown.{terminals}
 use Rattle.pi_expr.specs.States.{ShowsState}
 use Rattle.pi_expr.proofs.ReaderLemmas.{Same, left}
 use Rattle.pi_expr.proofs.reader.read.Given as goal

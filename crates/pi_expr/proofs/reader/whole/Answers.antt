@@ -1,5 +1,5 @@
 use Rattle.std.proofs.Common.{sym, subst}
-use Rattle.pi_phrases.specs.Machine as m
+use Rattle.pi_expr_phrases.specs.Machine as m
 use Rattle.pi_syntax.specs.ExpTree.{ExpTree, levels}
 use Rattle.pi_syntax.specs.Crowding.{most_levels}
 use Rattle.std.specs.Prelude.{◌≤◌}

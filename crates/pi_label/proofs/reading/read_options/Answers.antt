@@ -1,6 +1,6 @@
 use Rattle.std.proofs.Common.{◌≡◌, subst, sym, rules}
 use Rattle.std.specs.Prelude.{Err}
-use Rattle.pi_builtin.specs.Items.{AreItems}
+use Rattle.pi_lib_builtin.specs.Items.{AreItems}
 use Rattle.pi_label.specs.Reads.{ShowsOptions}
 use Rattle.pi_label.proofs.WordLemmas.{with-items, without-items, not-measured}
 use Rattle.pi_label.proofs.reading.read_options.Goals as goal

@@ -1,7 +1,7 @@
 use Rattle.std.proofs.Common.{List}
 use Rattle.pi_terms.specs.Tree.{Tree}
 use Rattle.pi_unify.specs.Terms.{HoldsNoCycle}
-use Rattle.pi_builtin.specs.Items.{AreItems}
+use Rattle.pi_lib_builtin.specs.Items.{AreItems}
 use Rattle.pi_label.proofs.WordLemmas.{AreReadTo}
 use Rattle.pi_label.proofs.reading.read_words.Given as goal
 

@@ -1,8 +1,8 @@
 use Rattle.std.proofs.Common.{◌≡◌, ◌∙◌, ap, rules}
 use Rattle.std.proofs.lemmas.Result.{IfOk-weaker}
 use Rattle.pi_core.specs.GoalTree.{call}
-use Rattle.pi_meaning.specs.NamedGoals.{catch_of_slots, call_of_slots}
-use Rattle.pi_meaning.proofs.NameLemmas.{catch-goal, call-goal, plain-goal}
+use Rattle.pi_meaning.specs.Machine.NamedGoals.{catch_of_slots, call_of_slots}
+use Rattle.pi_meaning.proofs.OverNames.NameLemmas.{catch-goal, call-goal, plain-goal}
 use Rattle.pi_meaning.proofs.named_goals.goal_by_name.Goals as goal
 
 pub returns-then-is_catch : goal.returns-then-is_catch

@@ -1,6 +1,6 @@
 use Rattle.std.proofs.Common.{rules}
-use Rattle.pi_meaning.specs.NamedGoals.{slots_from}
-use Rattle.pi_meaning.proofs.SlotLemmas.{slot-more}
+use Rattle.pi_meaning.specs.Machine.NamedGoals.{slots_from}
+use Rattle.pi_meaning.proofs.CoreMeaning.SlotLemmas.{slot-more}
 use Rattle.pi_meaning.proofs.named_goals.slots_below.Goals as goal
 
 pub loop-i-preserved : goal.loop-i-preserved

@@ -1,5 +1,5 @@
 use Rattle.std.proofs.Common.{◌≡◌, ◌++◌, ◌-◌}
-use Rattle.pi_meaning.specs.NamedGoals.{slots_from}
+use Rattle.pi_meaning.specs.Machine.NamedGoals.{slots_from}
 use Rattle.pi_meaning.proofs.named_goals.slots_below.Given as goal
 
 -- with those that are left they are all

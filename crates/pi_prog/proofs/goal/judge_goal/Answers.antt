@@ -3,10 +3,10 @@ use Rattle.std.specs.Prelude.{option_map}
 use Rattle.pi_lex.specs.Kinds.{kinds}
 use Rattle.pi_syntax.specs.ExpTree.{exp_tree}
 use Rattle.pi_syntax.specs.ProgramTree.{source_tree}
-use Rattle.pi_clauses.specs.Called.{named_by}
-use Rattle.pi_clauses.specs.Reading.{variable_names}
-use Rattle.pi_clauses.specs.Stretch.{without_end}
-use Rattle.pi_clauses.specs.Verdict.{has_too_many_names}
+use Rattle.pi_prog_clauses.specs.Called.{named_by}
+use Rattle.pi_prog_clauses.specs.Reading.{variable_names}
+use Rattle.pi_prog_clauses.specs.Stretch.{without_end}
+use Rattle.pi_prog_clauses.specs.Verdict.{has_too_many_names}
 use Rattle.pi_prog.proofs.goal.GoalLemmas.{bad_told, many_told, unknown_told, goal_calls}
 use Rattle.pi_prog.proofs.goal.judge_goal.Goals as goal
 

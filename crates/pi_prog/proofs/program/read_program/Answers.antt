@@ -1,8 +1,8 @@
 use Rattle.std.proofs.Common.{◌∙◌, ap, sym, subst}
 use Rattle.pi_lex.specs.Kinds.{kinds}
-use Rattle.pi_clauses.specs.Seen.{all_seen}
-use Rattle.pi_clauses.specs.Verdict.{parts_of, verdict}
-use Rattle.pi_clauses.specs.Shown.{AreShown}
+use Rattle.pi_prog_clauses.specs.Seen.{all_seen}
+use Rattle.pi_prog_clauses.specs.Verdict.{parts_of, verdict}
+use Rattle.pi_prog_clauses.specs.Shown.{AreShown}
 use Rattle.pi_prog.proofs.OneReadingLemmas.{one_program}
 use Rattle.pi_prog.proofs.ProgramLemmas.{has_verdict, has_program, is_program_fault, answers_fault}
 use Rattle.pi_prog.proofs.program.read_program.Goals as goal

@@ -5,7 +5,7 @@ use Rattle.pi_syntax.specs.Tokens.{Token, Atom, is_one_of}
 use Rattle.pi_syntax.specs.declared.program.Mode.{Mode}
 use Rattle.pi_expr.specs.Faults.{stretch}
 use Rattle.pi_expr.proofs.CrowdLemmas.{stretch_step, stretch_none}
-use Rattle.pi_clauses.specs.Declaration.{undeclared, importing, indexing, misdeclared, declaration_words, declared, ModeLists, no_more, one_more, Declares, imports, no_imports, indexes, no_indexes, others, Opens, clause_alone, declaration}
+use Rattle.pi_prog_clauses.specs.Declaration.{undeclared, importing, indexing, misdeclared, declaration_words, declared, ModeLists, no_more, one_more, Declares, imports, no_imports, indexes, no_indexes, others, Opens, clause_alone, declaration}
 use Rattle.pi_prog.specs.Pieces.{ShowsWord, ShowsImport, ShowsIndex, ShowsOpening}
 use Rattle.pi_prog.specs.declared.reading.declaration.DeclarationWord.TheVariants as word
 use Rattle.pi_prog.specs.declared.reading.declaration.PartOpening.{PartOpening}

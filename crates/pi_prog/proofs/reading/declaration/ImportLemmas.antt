@@ -5,7 +5,7 @@ use Rattle.std.proofs.lemmas.Bool.{cases_Bool}
 use Rattle.pi_syntax.specs.Tokens.{Token, Var, Atom, Word, Int, Str, Sign, End, is_one_of}
 use Rattle.pi_expr.specs.Faults.{stretch}
 use Rattle.pi_expr.proofs.CrowdLemmas.{stretch_step, stretch_none}
-use Rattle.pi_clauses.specs.Declaration.{libraries, imported, is_sign}
+use Rattle.pi_prog_clauses.specs.Declaration.{libraries, imported, is_sign}
 use Rattle.pi_prog.specs.Pieces.{library_of}
 
 abbrev Names : Type 0

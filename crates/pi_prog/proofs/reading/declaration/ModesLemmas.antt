@@ -10,7 +10,7 @@ use Rattle.pi_syntax.specs.declared.program.Mode.{Mode}
 use Rattle.pi_expr.specs.Crowds.{one_if}
 use Rattle.pi_expr.specs.Faults.{stretch}
 use Rattle.pi_expr.proofs.CrowdLemmas.{stretch_step, stretch_none}
-use Rattle.pi_clauses.specs.Declaration.{is_sign, mode_of, Modes, last_mode, more_modes, ModeList, mode_list, ModeLists, no_more, one_more, Opens, declaration, Declares, indexes, indexing}
+use Rattle.pi_prog_clauses.specs.Declaration.{is_sign, mode_of, Modes, last_mode, more_modes, ModeList, mode_list, ModeLists, no_more, one_more, Opens, declaration, Declares, indexes, indexing}
 use Rattle.pi_prog.specs.Pieces.{ShowsModes, ShowsModeList}
 use Rattle.pi_prog.specs.declared.reading.declaration.modes.FoundModes.{FoundModes}
 use Rattle.pi_prog.specs.declared.reading.declaration.modes.FoundModes.TheVariants as found

@@ -1,4 +1,4 @@
-use Rattle.pi_clauses.specs.declared.parts.PartReading.TheVariants as part
+use Rattle.pi_prog_clauses.specs.declared.parts.PartReading.TheVariants as part
 use Rattle.pi_prog.proofs.reading.ReadingLemmas.{part_open, part_ended, part_deep, part_without}
 use Rattle.pi_prog.proofs.reading.read_behind.Goals as goal
 

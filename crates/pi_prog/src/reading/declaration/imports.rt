@@ -3,7 +3,7 @@ ghost use Rattle.std.specs.Prelude.{◌≡◌, ◌≤◌, length, IfOk, MatchOpt
 ghost use Rattle.pi_lex.specs.Kinds.{kinds, token_shown};
 ghost use Rattle.pi_syntax.specs.Tokens.{is_one_of};
 ghost use Rattle.pi_expr.specs.Faults.{stretch};
-ghost use Rattle.pi_clauses.specs.Declaration as declaration;
+ghost use Rattle.pi_prog_clauses.specs.Declaration as declaration;
 ghost use Rattle.pi_prog.specs.Pieces.{library_of};
 
 use crate::reading::stretch::is_sign;
@@ -14,7 +14,8 @@ use std::alloc::{AllocError, Global};
 
 /// The name of a library, where the token is one.
 fn library(token: TokenKind<'_>) -> Option<&str>
-    ensures { MatchOption result (library_of (token_shown token.entry) ≡ None) (λ name. library_of (token_shown token.entry) ≡ Some name.now) }
+    ensures { MatchOption result (library_of (token_shown token.entry) ≡ None)
+        (λ name. library_of (token_shown token.entry) ≡ Some name.now) }
 {
     match token {
         TokenKind::Atom(name) => { if is_library(name) { Some(name) } else { None } }

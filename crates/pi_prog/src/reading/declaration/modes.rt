@@ -3,7 +3,7 @@ ghost use Rattle.std.specs.Prelude.{◌≡◌, ◌≤◌, length, IfOk};
 ghost use Rattle.pi_syntax.specs.Tokens.{Sign};
 ghost use Rattle.pi_lex.specs.Kinds.{kinds, token_shown};
 ghost use Rattle.pi_expr.specs.Faults.{stretch};
-ghost use Rattle.pi_clauses.specs.Declaration as declaration;
+ghost use Rattle.pi_prog_clauses.specs.Declaration as declaration;
 ghost use Rattle.pi_prog.specs.Pieces.{ShowsModes, ShowsModeList, IsListed};
 
 use crate::reading::stretch::is_sign;

@@ -4,7 +4,7 @@ use Rattle.std.specs.Int.{w128}
 use Rattle.std.specs.List.Sorted.{IsPartitionPoint}
 use Rattle.std.proofs.lemmas.Int.{ints}
 use Rattle.pi_constraints.specs.declared.domain.Span.{Span}
-use Rattle.pi_places.proofs.AskLemmas.{between_nowhere}
+use Rattle.pi_prop_places.proofs.AskLemmas.{between_nowhere}
 use Rattle.pi_queue.proofs.AskedLemmas.{between-by}
 use Rattle.pi_queue.proofs.asks.has_value_between.Goals as goal
 

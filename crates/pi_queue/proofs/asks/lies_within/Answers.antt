@@ -1,7 +1,7 @@
 use Rattle.std.proofs.Common.{arith, rules, pos}
 use Rattle.std.proofs.lemmas.Int.{ints}
-use Rattle.pi_places.proofs.NarrowedCuts.{from_to}
-use Rattle.pi_places.proofs.SharedLemmas.{none_are, all_are}
+use Rattle.pi_prop_places.proofs.NarrowedCuts.{from_to}
+use Rattle.pi_prop_places.proofs.SharedLemmas.{none_are, all_are}
 use Rattle.pi_queue.proofs.AskedLemmas.{one-within}
 use Rattle.pi_queue.proofs.asks.lies_within.Goals as goal
 

@@ -1,5 +1,5 @@
 use Rattle.std.proofs.Common.{length, ◌-◌, ◌+◌, take}
-use Rattle.pi_places.proofs.SharedLemmas.{AreValuesOf}
+use Rattle.pi_prop_places.proofs.SharedLemmas.{AreValuesOf}
 use Rattle.pi_queue.proofs.asks.lies_within.Given as goal
 
 abbrev pub invariant-loop-i : goal.invariant-loop-i

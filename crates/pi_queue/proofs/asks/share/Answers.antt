@@ -1,5 +1,5 @@
 use Rattle.std.proofs.Common.{arith, refl, inl, inr}
-use Rattle.pi_places.proofs.AskLemmas.{shared_first, shared_over}
+use Rattle.pi_prop_places.proofs.AskLemmas.{shared_first, shared_over}
 use Rattle.pi_queue.proofs.AskedLemmas.{not-before, shared-on, shared-off, shared-both}
 use Rattle.pi_queue.proofs.asks.share.Goals as goal
 

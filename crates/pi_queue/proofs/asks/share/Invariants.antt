@@ -1,5 +1,5 @@
 use Rattle.std.proofs.Common.{length, drop, ◌-◌, ◌+◌}
-use Rattle.pi_places.proofs.AskLemmas.{SharedIn}
+use Rattle.pi_prop_places.proofs.AskLemmas.{SharedIn}
 use Rattle.pi_queue.proofs.asks.share.Given as goal
 
 abbrev pub invariant-loop-i : goal.invariant-loop-i

@@ -1,9 +1,9 @@
 use Rattle.std.proofs.Common.{◌∙◌, ◌++◌, ◌∷◌, [], List, sym, ap, take, append_assoc}
 use Rattle.std.proofs.lemmas.List.{append-nil, take_all}
 use Rattle.pi_constraints.specs.declared.constraint.Item.{Item}
-use Rattle.pi_filters.specs.Places.{sum_places}
-use Rattle.pi_filters.proofs.SumLemmas.{variable_at}
-use Rattle.pi_prop.proofs.ApartLemmas.{sum_places-take_more}
+use Rattle.pi_prop_spec.specs.Places.{sum_places}
+use Rattle.pi_prop_spec.proofs.SumLemmas.{variable_at}
+use Rattle.pi_prop_filters.proofs.ApartLemmas.{sum_places-take_more}
 use Rattle.pi_queue.proofs.places.put_variables.Goals as goal
 
 pub loop-i-init : goal.loop-i-init

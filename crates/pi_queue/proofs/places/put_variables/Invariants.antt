@@ -1,5 +1,5 @@
 use Rattle.std.proofs.Common.{◌≡◌, ◌++◌, take}
-use Rattle.pi_filters.specs.Places.{sum_places}
+use Rattle.pi_prop_spec.specs.Places.{sum_places}
 use Rattle.pi_queue.proofs.places.put_variables.Given as goal
 
 abbrev pub invariant-loop-i : goal.invariant-loop-i

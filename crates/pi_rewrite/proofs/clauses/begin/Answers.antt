@@ -1,8 +1,8 @@
 -- A head fills the slots that there are behind it.
 use Rattle.std.proofs.Common.{[], ap, ◌∙◌}
 use Rattle.pi_syntax.specs.ExpTree.{exp_tree}
-use Rattle.pi_meaning.specs.Texts.{behind, places}
-use Rattle.pi_sites.specs.OwnNames.{own_name}
+use Rattle.pi_meaning.specs.OverNames.Texts.{behind, places}
+use Rattle.pi_rewrite_sites.specs.OwnNames.{own_name}
 use Rattle.pi_rewrite.proofs.ClauseLemmas.{site}
 use Rattle.pi_rewrite.proofs.clauses.begin.Goals as goal
 

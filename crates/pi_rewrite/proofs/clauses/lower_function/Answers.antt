@@ -2,13 +2,13 @@
 use Rattle.std.proofs.Common.{◌≡◌, ◌++◌, List, [], length, map, refl, false, Some, ap, ◌∙◌}
 use Rattle.pi_syntax.specs.ProgramTree.{FunctionTree, function_tree}
 use Rattle.pi_core.specs.CoreTree.{PredTree, pred_tree}
-use Rattle.pi_meaning.specs.WrittenRules.{head_arguments}
-use Rattle.pi_lowered.specs.Values.{slot_patterns}
-use Rattle.pi_lowered.specs.Helpers.{value_helpers}
-use Rattle.pi_lowered.specs.Programs.{option_helpers, behind_option, function_site, value_site}
-use Rattle.pi_lowered.specs.Sites.{Site}
-use Rattle.pi_sites.specs.OwnNames.{own_name}
-use Rattle.pi_sites.specs.SiteOf.{site_of}
+use Rattle.pi_meaning.specs.OverNames.WrittenRules.{head_arguments}
+use Rattle.pi_rewrite_spec.specs.Values.{slot_patterns}
+use Rattle.pi_rewrite_spec.specs.Helpers.{value_helpers}
+use Rattle.pi_rewrite_spec.specs.Programs.{option_helpers, behind_option, function_site, value_site}
+use Rattle.pi_rewrite_spec.specs.Sites.{Site}
+use Rattle.pi_rewrite_sites.specs.OwnNames.{own_name}
+use Rattle.pi_rewrite_sites.specs.SiteOf.{site_of}
 use Rattle.pi_rewrite.proofs.ClauseLemmas.{function-is, function-site-is, value-site-is, two-behind}
 use Rattle.pi_rewrite.proofs.clauses.lower_function.Goals as goal
 

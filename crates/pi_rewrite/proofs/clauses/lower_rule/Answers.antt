@@ -2,13 +2,13 @@
 use Rattle.std.proofs.Common.{◌≡◌, length, map, refl, ap, None, ◌∙◌}
 use Rattle.pi_syntax.specs.ProgramTree.{RuleTree, rule_tree}
 use Rattle.pi_core.specs.CoreTree.{pred_tree}
-use Rattle.pi_meaning.specs.WrittenRules.{head_arguments}
-use Rattle.pi_lowered.specs.Values.{slot_patterns}
-use Rattle.pi_lowered.specs.Helpers.{goal_helpers}
-use Rattle.pi_lowered.specs.Programs.{option_helpers, behind_option, rule_site}
-use Rattle.pi_lowered.specs.Sites.{Site}
-use Rattle.pi_sites.specs.OwnNames.{own_name}
-use Rattle.pi_sites.specs.SiteOf.{site_of}
+use Rattle.pi_meaning.specs.OverNames.WrittenRules.{head_arguments}
+use Rattle.pi_rewrite_spec.specs.Values.{slot_patterns}
+use Rattle.pi_rewrite_spec.specs.Helpers.{goal_helpers}
+use Rattle.pi_rewrite_spec.specs.Programs.{option_helpers, behind_option, rule_site}
+use Rattle.pi_rewrite_spec.specs.Sites.{Site}
+use Rattle.pi_rewrite_sites.specs.OwnNames.{own_name}
+use Rattle.pi_rewrite_sites.specs.SiteOf.{site_of}
 use Rattle.pi_rewrite.proofs.ClauseLemmas.{rule-is, rule-site-is, two-behind}
 use Rattle.pi_rewrite.proofs.clauses.lower_rule.Goals as goal
 

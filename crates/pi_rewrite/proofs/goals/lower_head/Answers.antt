@@ -2,9 +2,9 @@
 use Rattle.std.proofs.Common.{◌≡◌, sym, ◌∙◌, ap}
 use Rattle.pi_syntax.specs.ExpTree.{ExpTrees, exp_tree}
 use Rattle.pi_syntax.specs.ExpLists.{exps_of}
-use Rattle.pi_meaning.specs.WrittenRules.{head_arguments}
-use Rattle.pi_lowered.specs.Values.{slot_patterns}
-use Rattle.pi_slots.proofs.ExpTrees.{call-is}
+use Rattle.pi_meaning.specs.OverNames.WrittenRules.{head_arguments}
+use Rattle.pi_rewrite_spec.specs.Values.{slot_patterns}
+use Rattle.pi_rewrite_slots.proofs.ExpTrees.{call-is}
 use Rattle.pi_rewrite.proofs.goals.lower_head.Goals as goal
 
 pub returns-in_ok-made-in-Call-clause-are : goal.returns-in_ok-made-in-Call-clause-are

@@ -1,10 +1,10 @@
 -- Behind no names stand those of the head.
 use Rattle.std.proofs.Common.{false, ◌++◌, refl, ap, ◌∙◌}
 use Rattle.pi_syntax.specs.ExpTree.{exp_tree}
-use Rattle.pi_slots.specs.Indexed.{names_in}
-use Rattle.pi_sites.specs.OwnNames.{own_name}
-use Rattle.pi_sites.specs.SiteOf.{site_of}
-use Rattle.pi_sites.specs.TextNames.{names_of}
+use Rattle.pi_rewrite_slots.specs.Indexed.{names_in}
+use Rattle.pi_rewrite_sites.specs.OwnNames.{own_name}
+use Rattle.pi_rewrite_sites.specs.SiteOf.{site_of}
+use Rattle.pi_rewrite_sites.specs.TextNames.{names_of}
 use Rattle.pi_rewrite.proofs.ClauseLemmas.{head-site}
 use Rattle.pi_rewrite.proofs.places.clause_site.Goals as goal
 

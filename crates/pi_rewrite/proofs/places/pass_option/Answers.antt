@@ -1,7 +1,7 @@
 use Rattle.std.proofs.Common.{ap}
 use Rattle.std.specs.Prelude.{option_copied, option_map}
 use Rattle.pi_syntax.specs.ExpTree.{exp_tree}
-use Rattle.pi_sites.specs.SiteOf.{site_of}
+use Rattle.pi_rewrite_sites.specs.SiteOf.{site_of}
 use Rattle.pi_rewrite.proofs.ClauseLemmas.{pass-none}
 use Rattle.pi_rewrite.proofs.places.pass_option.Goals as goal
 

@@ -2,7 +2,7 @@
 use Rattle.std.proofs.Common.{Some, map, ap, ◌∙◌}
 use Rattle.std.proofs.lemmas.Result.{IfOk-weaker}
 use Rattle.pi_core.specs.CoreTree.{pred_tree}
-use Rattle.pi_sites.specs.OwnNames.{own_name}
+use Rattle.pi_rewrite_sites.specs.OwnNames.{own_name}
 use Rattle.pi_rewrite.proofs.GroupLemmas.{rule-adds, function-adds, rule-helps, function-helps}
 use Rattle.pi_rewrite.proofs.preds.lower_part.Goals as goal
 

@@ -1,7 +1,7 @@
 -- One more part.
 use Rattle.std.proofs.Common.{map}
 use Rattle.pi_core.specs.CoreTree.{pred_tree}
-use Rattle.pi_sites.specs.OwnNames.{own_name}
+use Rattle.pi_rewrite_sites.specs.OwnNames.{own_name}
 use Rattle.pi_rewrite.proofs.GroupLemmas.{preds-more, helpers-more, preds-end, helpers-end}
 use Rattle.pi_rewrite.proofs.preds.lower_parts.Goals as goal
 

@@ -1,6 +1,6 @@
 use Rattle.std.proofs.Common.{drop, map}
 use Rattle.pi_core.specs.CoreTree.{pred_tree}
-use Rattle.pi_sites.specs.OwnNames.{own_name}
+use Rattle.pi_rewrite_sites.specs.OwnNames.{own_name}
 use Rattle.pi_rewrite.proofs.GroupLemmas.{PredsAhead, HelpersAhead}
 use Rattle.pi_rewrite.proofs.preds.lower_parts.Given as goal
 

@@ -3,9 +3,9 @@ use Rattle.std.proofs.Common.{◌≡◌, ℕ, suc, List, map, ◌++◌, ◌∙�
 use Rattle.std.proofs.lemmas.List.{map-append}
 use Rattle.pi_syntax.specs.ProgramTree.{ProgramTree, part_tree, source_tree}
 use Rattle.pi_core.specs.CoreTree.{pred_tree}
-use Rattle.pi_meaning.specs.Prelude.{prelude}
-use Rattle.pi_lowered.specs.Programs.{Naming, core_program}
-use Rattle.pi_sites.specs.OwnNames.{own_name}
+use Rattle.pi_meaning.specs.OverNames.Prelude.{prelude}
+use Rattle.pi_rewrite_spec.specs.Programs.{Naming, core_program}
+use Rattle.pi_rewrite_sites.specs.OwnNames.{own_name}
 use Rattle.pi_rewrite.specs.Built.{tildes, longest_head, program_prefix}
 use Rattle.pi_rewrite.proofs.GroupLemmas.{program-is}
 use Rattle.pi_rewrite.proofs.preds.lower_program.Goals as goal

@@ -2,11 +2,11 @@
 use Rattle.std.proofs.Common.{ℕ, List, map, ◌∙◌, ap}
 use Rattle.pi_syntax.specs.ExpTree.{exp_tree}
 use Rattle.pi_core.specs.CoreTree.{pred_tree}
-use Rattle.pi_meaning.specs.Texts.{Names}
-use Rattle.pi_lowered.specs.Slots.{named_slots, slots_behind}
-use Rattle.pi_lowered.specs.Programs.{core_query}
-use Rattle.pi_slots.specs.Indexed.{names_in}
-use Rattle.pi_sites.specs.OwnNames.{own_name}
+use Rattle.pi_meaning.specs.OverNames.Texts.{Names}
+use Rattle.pi_rewrite_spec.specs.Slots.{named_slots, slots_behind}
+use Rattle.pi_rewrite_spec.specs.Programs.{core_query}
+use Rattle.pi_rewrite_slots.specs.Indexed.{names_in}
+use Rattle.pi_rewrite_sites.specs.OwnNames.{own_name}
 use Rattle.pi_rewrite.proofs.ClauseLemmas.{site, query-is}
 use Rattle.pi_rewrite.proofs.queries.lower_query.Goals as goal
 

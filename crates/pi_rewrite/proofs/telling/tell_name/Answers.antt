@@ -1,6 +1,6 @@
 use Rattle.std.proofs.Common.{◌≡◌, true, false, sym, ◌∙◌, ap}
-use Rattle.pi_meaning.specs.Texts.{is_among}
-use Rattle.pi_slots.specs.Indexed.{names_in}
+use Rattle.pi_meaning.specs.OverNames.Texts.{is_among}
+use Rattle.pi_rewrite_slots.specs.Indexed.{names_in}
 use Rattle.pi_rewrite.proofs.TellLemmas.{hidden-name, known-name, new-name, pushed-name}
 use Rattle.pi_rewrite.proofs.telling.tell_name.Goals as goal
 

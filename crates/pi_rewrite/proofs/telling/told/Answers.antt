@@ -1,7 +1,7 @@
 -- One more name.
 use Rattle.std.proofs.Common.{[], ap}
-use Rattle.pi_meaning.specs.Telling.{told_behind}
-use Rattle.pi_slots.specs.Indexed.{names_in}
+use Rattle.pi_meaning.specs.OverNames.Telling.{told_behind}
+use Rattle.pi_rewrite_slots.specs.Indexed.{names_in}
 use Rattle.pi_rewrite.proofs.TellLemmas.{told-more, told-all}
 use Rattle.pi_rewrite.proofs.telling.told.Goals as goal
 

@@ -1,4 +1,4 @@
-use Rattle.pi_slots.specs.Indexed.{names_in}
+use Rattle.pi_rewrite_slots.specs.Indexed.{names_in}
 use Rattle.pi_rewrite.proofs.TellLemmas.{ToldTo}
 use Rattle.pi_rewrite.proofs.telling.told.Given as goal
 

@@ -2,9 +2,9 @@
 use Rattle.std.proofs.Common.{false, [], ◌++◌, ap, ◌∙◌}
 use Rattle.std.proofs.lemmas.Result.{IfOk-weaker}
 use Rattle.pi_syntax.specs.ExpTree.{exp_tree}
-use Rattle.pi_meaning.specs.Telling.{told_behind}
-use Rattle.pi_slots.specs.Indexed.{names_in}
-use Rattle.pi_sites.specs.TextNames.{names_of}
+use Rattle.pi_meaning.specs.OverNames.Telling.{told_behind}
+use Rattle.pi_rewrite_slots.specs.Indexed.{names_in}
+use Rattle.pi_rewrite_sites.specs.TextNames.{names_of}
 use Rattle.pi_rewrite.proofs.telling.told_names.Goals as goal
 
 pub returns : goal.returns

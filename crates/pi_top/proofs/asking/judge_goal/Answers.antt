@@ -2,7 +2,7 @@ use Rattle.std.proofs.Common.{◌≡◌, Some, ap, ◌∙◌}
 use Rattle.std.specs.String.{string_bytes}
 use Rattle.pi_core.specs.CoreTree.{program_tree, query_tree}
 use Rattle.pi_syntax.specs.ProgramTree.{source_tree, goal_source}
-use Rattle.pi_sound.specs.Built.{unbuilt_goal}
+use Rattle.pi_rewrite_sound.specs.Built.{unbuilt_goal}
 use Rattle.pi_top.specs.FaultLines.{of_goal}
 use Rattle.pi_top.specs.Judged.{IsGoalLine}
 use Rattle.pi_top.specs.Asking.{RefusesOf}

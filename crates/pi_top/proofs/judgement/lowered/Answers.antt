@@ -2,7 +2,7 @@ use Rattle.std.proofs.Common.{◌≡◌, ◌∙◌, Some}
 use Rattle.std.specs.String.{string_bytes}
 use Rattle.pi_core.specs.CoreTree.{program_tree, query_tree}
 use Rattle.pi_syntax.specs.ProgramTree.{source_tree, goal_source}
-use Rattle.pi_sound.specs.Built.{unbuilt_part, unbuilt_goal}
+use Rattle.pi_rewrite_sound.specs.Built.{unbuilt_part, unbuilt_goal}
 use Rattle.pi_top.specs.Judged.{not_built}
 use Rattle.pi_top.proofs.AskedTexts.{is-asked}
 use Rattle.pi_top.proofs.UnbuiltLines.{unbuilt_line-part, unbuilt_line-goal}

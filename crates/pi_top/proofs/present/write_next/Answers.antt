@@ -4,7 +4,7 @@ use Rattle.std.proofs.lemmas.Result.{err_from_is_err_and}
 use Rattle.pi_core.specs.CoreTree.{PredTree, QueryTree}
 use Rattle.pi_outside.specs.Writes.{SinkWrite, ByWrites}
 use Rattle.pi_outside.proofs.WriteRuns.{ByWrites-so, ByWrites-then}
-use Rattle.pi_meaning.specs.Built.{IsRunnable}
+use Rattle.pi_meaning.specs.Machine.Built.{IsRunnable}
 use Rattle.pi_engine.specs.Seen.{machine_view}
 use Rattle.pi_top.specs.Running.{IsWritten}
 use Rattle.pi_top.specs.Stops.{status_of_stop}

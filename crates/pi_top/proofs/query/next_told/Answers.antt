@@ -2,7 +2,7 @@ use Rattle.std.proofs.Common.{◌≡◌, [], ◌++◌, Err, refl, subst, ◌∙�
 use Rattle.std.proofs.lemmas.List.{append-nil}
 use Rattle.std.proofs.lemmas.Result.{err_from_is_err_and}
 use Rattle.pi_outside.proofs.WriteRuns.{ByWrites-none, ByWrites-so, ByWrites-then}
-use Rattle.pi_meaning.specs.View.{query_view}
+use Rattle.pi_meaning.specs.Shared.View.{query_view}
 use Rattle.pi_engine.specs.Seen.{machine_view}
 use Rattle.pi_top.specs.declared.query.Stop.TheVariants.{Write}
 use Rattle.pi_top.specs.Running.{IsSoFar, Called, NextComes}

@@ -1,7 +1,7 @@
 use Rattle.std.proofs.Common.{◌≡◌, ℕ, List, ◌++◌}
 use Rattle.pi_core.specs.CoreTree.{PredTree, QueryTree}
 use Rattle.pi_meaning.specs.declared.happening.Mode.{Mode}
-use Rattle.pi_meaning.specs.Budget.{IsWithin}
+use Rattle.pi_meaning.specs.Machine.Budget.{IsWithin}
 use Rattle.pi_engine.specs.Seen.{machine_view, mode_of}
 use Rattle.pi_outside.specs.Writes.{ByWrites, SinkWrite}
 use Rattle.pi_top.specs.declared.manner.Lines.{Lines}

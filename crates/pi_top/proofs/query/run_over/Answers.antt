@@ -2,7 +2,7 @@ use Rattle.std.proofs.Common.{◌≡◌, ◌≤◌, [], ◌∷◌, ◌++◌, ref
 use Rattle.std.proofs.lemmas.Result.{err_from_is_err_and}
 use Rattle.pi_core.specs.CoreTree.{program_tree, query_tree}
 use Rattle.pi_core.specs.declared.log.Work.{Work}
-use Rattle.pi_meaning.specs.Budget.{IsWithin}
+use Rattle.pi_meaning.specs.Machine.Budget.{IsWithin}
 use Rattle.pi_outside.proofs.WriteRuns.{ByWrites-none, ByWrites-so}
 use Rattle.pi_top.specs.declared.runs.QueryRun.{QueryRun}
 use Rattle.pi_top.specs.Runs.{AllWithin, no_work, run_of}

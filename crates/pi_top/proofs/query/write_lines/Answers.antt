@@ -1,7 +1,7 @@
 use Rattle.std.proofs.Common.{◌≡◌, ℕ, List, [], ◌++◌, refl, subst, ◌∙◌}
 use Rattle.std.proofs.lemmas.Result.{err_from_is_err_and}
 use Rattle.pi_outside.proofs.WriteRuns.{ByWrites-none, ByWrites-so, ByWrites-then}
-use Rattle.pi_print.specs.PrintAnswer.{answer_lines}
+use Rattle.pi_print_terms.specs.PrintAnswer.{answer_lines}
 use Rattle.pi_top.specs.declared.query.Stop.TheVariants.{Memory, Write}
 use Rattle.pi_top.specs.Handing.{HandsAll, none, FailsIn}
 use Rattle.pi_top.proofs.HandedTexts.{line-then, line-cut, all-lines}

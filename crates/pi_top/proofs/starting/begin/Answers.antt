@@ -1,5 +1,5 @@
 use Rattle.std.proofs.Common.{[], ◌∷◌, ◌++◌, refl, ap, ◌∙◌, rules, arith}
-use Rattle.pi_meaning.specs.View.{query_view}
+use Rattle.pi_meaning.specs.Shared.View.{query_view}
 use Rattle.pi_top.specs.declared.runs.QueryRun.{QueryRun}
 use Rattle.pi_top.proofs.starting.begin.Goals as goal
 

@@ -3,9 +3,9 @@ use Rattle.std.specs.String.{string_bytes}
 use Rattle.pi_outside.proofs.InputRuns.{ByInput-none, ByInput-so}
 use Rattle.pi_outside.proofs.ReadRuns.{ByReads-none, ByReads-so}
 use Rattle.pi_outside.proofs.WriteRuns.{ByWrites-none, ByWrites-so}
-use Rattle.pi_words.specs.declared.run_mode.RunMode.TheVariants.{Query, Run, Session, Print, Demo}
-use Rattle.pi_words.specs.Words.{options}
-use Rattle.pi_words.proofs.AskedWords.{some-answer, demo-places}
+use Rattle.pi_top_words.specs.declared.run_mode.RunMode.TheVariants.{Query, Run, Session, Print, Demo}
+use Rattle.pi_top_words.specs.Words.{options}
+use Rattle.pi_top_words.proofs.AskedWords.{some-answer, demo-places}
 use Rattle.pi_top.specs.Faults.{counted}
 use Rattle.pi_top.proofs.SessionEndings.{file-unread}
 use Rattle.pi_top.proofs.Endings.{by-demo, by-file, by-nothing, by-usage, no-unread}

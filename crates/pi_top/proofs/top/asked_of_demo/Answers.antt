@@ -1,7 +1,7 @@
 use Rattle.std.proofs.Common.{◌≡◌, ◌∙◌, None, Some, sym}
 use Rattle.std.proofs.lemmas.Result.{err_from_is_err_and}
 use Rattle.pi_outside.proofs.WriteRuns.{ByWrites-none, ByWrites-so}
-use Rattle.pi_words.specs.Words.{places_of}
+use Rattle.pi_top_words.specs.Words.{places_of}
 use Rattle.pi_top.specs.Demo.{demo_program}
 use Rattle.pi_top.specs.declared.query.Stop.TheVariants.{Memory}
 use Rattle.pi_top.proofs.Endings.{made-nothing, made-text}

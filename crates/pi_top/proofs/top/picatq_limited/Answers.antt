@@ -3,7 +3,7 @@ use Rattle.std.specs.String.{string_bytes}
 use Rattle.pi_outside.proofs.InputRuns.{ByInput-so}
 use Rattle.pi_outside.proofs.ReadRuns.{ByReads-so}
 use Rattle.pi_outside.proofs.WriteRuns.{ByWrites-so, ByWrites-then}
-use Rattle.pi_words.specs.Words.{options}
+use Rattle.pi_top_words.specs.Words.{options}
 use Rattle.pi_top.specs.Faults.{counted}
 use Rattle.pi_top.proofs.Completing.{complete}
 use Rattle.pi_top.proofs.EndStatuses.{status-given, status-most, counts-tell}

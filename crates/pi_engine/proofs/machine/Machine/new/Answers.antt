@@ -1,6 +1,6 @@
 use Rattle.std.proofs.Common.{refl, sym, ◌∙◌, ap, subst}
 use Rattle.pi_core.specs.CoreTree.{program_tree, query_tree}
-use Rattle.pi_arenas.specs.Arenas.{view_of}
+use Rattle.pi_engine_arenas.specs.Arenas.{view_of}
 use Rattle.pi_engine.proofs.RunsTold.{goes-on-in, new-runs}
 use Rattle.pi_constraints.specs.Store.{Stays}
 use Rattle.pi_engine.proofs.RunBegins.{undone-stays}

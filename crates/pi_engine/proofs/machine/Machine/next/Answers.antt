@@ -1,10 +1,10 @@
 use Rattle.std.proofs.Common.{◌≡◌, refl, sym, ◌∙◌, subst}
-use Rattle.pi_arenas.specs.Arenas.{view_of}
-use Rattle.pi_stands.specs.Answers.{AreNames}
-use Rattle.pi_stands.specs.Goes.{IsIn}
+use Rattle.pi_engine_arenas.specs.Arenas.{view_of}
+use Rattle.pi_engine_stands.specs.Answers.{AreNames}
+use Rattle.pi_engine_stands.specs.Goes.{IsIn}
 use Rattle.pi_engine.specs.Seen.{MachineView, machine_view}
 use Rattle.pi_engine.specs.Inside.{loaded_as, run_of}
-use Rattle.pi_stands.specs.Stands.{Loaded}
+use Rattle.pi_engine_stands.specs.Stands.{Loaded}
 use Rattle.pi_engine.specs.Turns.{NextComes, stopped_run}
 use Rattle.pi_engine.proofs.NextTurns.{repeated-as}
 use Rattle.pi_engine.proofs.RunsTold.{later, placed-in, lasting-in, told-by}

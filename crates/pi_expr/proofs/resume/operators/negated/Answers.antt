@@ -1,6 +1,6 @@
 use Rattle.std.proofs.Common.{sym, subst, ℤ, rules}
 use Rattle.pi_syntax.specs.ExpTree.{int}
-use Rattle.pi_phrases.specs.Trees.{Shows}
+use Rattle.pi_expr_phrases.specs.Trees.{Shows}
 use Rattle.pi_expr.proofs.resume.operators.negated.Goals as goal
 
 pub returns-in-Some : goal.returns-in-Some

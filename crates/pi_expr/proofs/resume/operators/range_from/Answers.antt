@@ -1,6 +1,6 @@
 use Rattle.std.proofs.Common.{refl}
 use Rattle.std.proofs.lemmas.Result.{IfOk-weaker}
-use Rattle.pi_phrases.specs.Machine as m
+use Rattle.pi_expr_phrases.specs.Machine as m
 use Rattle.pi_syntax.specs.ExpTree as tree
 use Rattle.pi_expr.proofs.resume.operators.range_from.Goals as goal
 

@@ -1,5 +1,5 @@
-use Rattle.pi_meaning.proofs.LeadLemmas.{remaining-deeper, starts, leads-on}
-use Rattle.pi_meaning.proofs.RunLaws.{depth-suffices}
+use Rattle.pi_meaning.proofs.Machine.LeadLemmas.{remaining-deeper, starts, leads-on}
+use Rattle.pi_meaning.proofs.Machine.RunLaws.{depth-suffices}
 use Rattle.pi_meaning.proofs.laws.machine.runs_lead_on.Goals as goal
 
 pub returns-clause-more : goal.returns-clause-more

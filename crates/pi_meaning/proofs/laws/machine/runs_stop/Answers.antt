@@ -1,5 +1,5 @@
-use Rattle.pi_meaning.proofs.LeadLemmas.{ended-all, tick-begins}
-use Rattle.pi_meaning.proofs.RunLaws.{ended-run, spent-run, run-prefix}
+use Rattle.pi_meaning.proofs.Machine.LeadLemmas.{ended-all, tick-begins}
+use Rattle.pi_meaning.proofs.Machine.RunLaws.{ended-run, spent-run, run-prefix}
 use Rattle.pi_meaning.proofs.laws.machine.runs_stop.Goals as goal
 
 pub returns-clause-ended : goal.returns-clause-ended

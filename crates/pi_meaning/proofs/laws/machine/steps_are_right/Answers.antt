@@ -1,7 +1,7 @@
-use Rattle.pi_meaning.proofs.LeaveLemmas.{levels-leave-nothing}
-use Rattle.pi_meaning.proofs.MachineSteps.{step-comes}
-use Rattle.pi_meaning.proofs.GoodSteps.{step-good}
-use Rattle.pi_meaning.proofs.WeightSteps.{step-lighter}
+use Rattle.pi_meaning.proofs.Machine.LeaveLemmas.{levels-leave-nothing}
+use Rattle.pi_meaning.proofs.Machine.MachineSteps.{step-comes}
+use Rattle.pi_meaning.proofs.Machine.GoodSteps.{step-good}
+use Rattle.pi_meaning.proofs.Machine.WeightSteps.{step-lighter}
 use Rattle.pi_meaning.proofs.laws.machine.steps_are_right.Goals as goal
 
 pub returns-clause-right : goal.returns-clause-right

@@ -1,4 +1,4 @@
-use Rattle.pi_meaning.proofs.CallLemmas.{tabled-adds, whole-adds}
+use Rattle.pi_meaning.proofs.Shared.CallLemmas.{tabled-adds, whole-adds}
 use Rattle.pi_meaning.proofs.laws.meaning.built_ins_only_add.Goals as goal
 
 pub returns-clause-tabled : goal.returns-clause-tabled

@@ -1,7 +1,7 @@
-use Rattle.pi_meaning.proofs.MeaningLemmas.{meaning-below}
-use Rattle.pi_meaning.proofs.LevelLemmas.{level-itself, level-further, quiet-keeps-depth}
-use Rattle.pi_meaning.proofs.RuleLemmas.{level-below, quiet-deeper}
-use Rattle.pi_meaning.proofs.QueryLemmas.{query-deeper}
+use Rattle.pi_meaning.proofs.CoreMeaning.MeaningLemmas.{meaning-below}
+use Rattle.pi_meaning.proofs.Shared.LevelLemmas.{level-itself, level-further, quiet-keeps-depth}
+use Rattle.pi_meaning.proofs.CoreMeaning.RuleLemmas.{level-below, quiet-deeper}
+use Rattle.pi_meaning.proofs.CoreMeaning.QueryLemmas.{query-deeper}
 use Rattle.pi_meaning.proofs.laws.meaning.depths_add.Goals as goal
 
 pub returns-clause-goals : goal.returns-clause-goals

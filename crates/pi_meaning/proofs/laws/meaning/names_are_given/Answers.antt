@@ -1,4 +1,4 @@
-use Rattle.pi_meaning.proofs.KnownLemmas.{whole-knows}
+use Rattle.pi_meaning.proofs.Shared.KnownLemmas.{whole-knows}
 use Rattle.pi_meaning.proofs.laws.meaning.names_are_given.Goals as goal
 
 pub returns : goal.returns

@@ -1,4 +1,4 @@
-use Rattle.pi_meaning.proofs.QuietRules.{depth-reaches, query-runs}
+use Rattle.pi_meaning.proofs.CoreMeaning.QuietRules.{depth-reaches, query-runs}
 use Rattle.pi_meaning.proofs.laws.meaning.queries_run.Goals as goal
 
 pub returns-clause-reaches : goal.returns-clause-reaches

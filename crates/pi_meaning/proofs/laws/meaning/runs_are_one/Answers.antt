@@ -1,4 +1,4 @@
-use Rattle.pi_meaning.proofs.QueryLemmas.{whole-query, one-run, run-deeper}
+use Rattle.pi_meaning.proofs.CoreMeaning.QueryLemmas.{whole-query, one-run, run-deeper}
 use Rattle.pi_meaning.proofs.laws.meaning.runs_are_one.Goals as goal
 
 pub returns-clause-whole : goal.returns-clause-whole

@@ -1,4 +1,4 @@
-use Rattle.pi_meaning.proofs.ValueLemmas.{calls-go_by_values, functions-go_by_values, goals-are_calls}
+use Rattle.pi_meaning.proofs.OverNames.ValueLemmas.{calls-go_by_values, functions-go_by_values, goals-are_calls}
 use Rattle.pi_meaning.proofs.laws.names.calls_go_by_values.Goals as goal
 
 pub returns-clause-predicates : goal.returns-clause-predicates

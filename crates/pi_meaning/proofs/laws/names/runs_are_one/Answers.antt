@@ -1,4 +1,4 @@
-use Rattle.pi_meaning.proofs.GrowRules.{names-deeper, names-runs-are-one, names-runs-reach}
+use Rattle.pi_meaning.proofs.OverNames.GrowRules.{names-deeper, names-runs-are-one, names-runs-reach}
 use Rattle.pi_meaning.proofs.laws.names.runs_are_one.Goals as goal
 
 pub returns-clause-deeper : goal.returns-clause-deeper

@@ -1,4 +1,4 @@
-use Rattle.pi_meaning.proofs.SmallPrograms.{small-is_surface, small-calls-are-surface}
+use Rattle.pi_meaning.proofs.OverNames.SmallPrograms.{small-is_surface, small-calls-are-surface}
 use Rattle.pi_meaning.proofs.laws.names.small_is_surface.Goals as goal
 
 pub returns-clause-same : goal.returns-clause-same

@@ -1,4 +1,4 @@
-use Rattle.pi_meaning.proofs.TraceLemmas.{caught-emit, caught-behind, caught-none, caught-followed}
+use Rattle.pi_meaning.proofs.Traces.TraceLemmas.{caught-emit, caught-behind, caught-none, caught-followed}
 use Rattle.pi_meaning.proofs.laws.traces.catches.Goals as goal
 
 pub returns-clause-events : goal.returns-clause-events

@@ -1,4 +1,4 @@
-use Rattle.pi_meaning.proofs.TraceLemmas.{first-first, first-stops, first-all, chosen-then, chosen-else, negated-chosen, collected-list, counted-length, caught-raise, caught-rest}
+use Rattle.pi_meaning.proofs.Traces.TraceLemmas.{first-first, first-stops, first-all, chosen-then, chosen-else, negated-chosen, collected-list, counted-length, caught-raise, caught-rest}
 use Rattle.pi_meaning.proofs.laws.traces.control_forms.Goals as goal
 
 pub returns-clause-first : goal.returns-clause-first

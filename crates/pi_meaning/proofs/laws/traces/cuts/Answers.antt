@@ -1,5 +1,5 @@
-use Rattle.pi_meaning.proofs.TraceLemmas.{emit-append}
-use Rattle.pi_meaning.proofs.CutLemmas.{cut-prefix, cut-emit, cut-at_tick, cut-all, cuts-tell, cut-below, depths-agree}
+use Rattle.pi_meaning.proofs.Traces.TraceLemmas.{emit-append}
+use Rattle.pi_meaning.proofs.Traces.CutLemmas.{cut-prefix, cut-emit, cut-at_tick, cut-all, cuts-tell, cut-below, depths-agree}
 use Rattle.pi_meaning.proofs.laws.traces.cuts.Goals as goal
 
 pub returns-clause-emitted : goal.returns-clause-emitted

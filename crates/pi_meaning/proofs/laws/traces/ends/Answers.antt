@@ -1,4 +1,4 @@
-use Rattle.pi_meaning.proofs.TraceLemmas.{events-and-end, alt-goes_on, alt-first}
+use Rattle.pi_meaning.proofs.Traces.TraceLemmas.{events-and-end, alt-goes_on, alt-first}
 use Rattle.pi_meaning.proofs.laws.traces.ends.Goals as goal
 
 pub returns-clause-events : goal.returns-clause-events

@@ -1,4 +1,4 @@
-use Rattle.pi_meaning.proofs.TraceLemmas.{first-alt, negated-alt, chosen-alt, collected-alt, counted-alt, caught-alt}
+use Rattle.pi_meaning.proofs.Traces.TraceLemmas.{first-alt, negated-alt, chosen-alt, collected-alt, counted-alt, caught-alt}
 use Rattle.pi_meaning.proofs.laws.traces.forms_of_alternatives.Goals as goal
 
 pub returns-clause-first : goal.returns-clause-first

@@ -1,4 +1,4 @@
-use Rattle.pi_meaning.proofs.BelowLemmas.{below-refl, below-trans, below-antisym, below-whole, depth-enough, below-alt, below-then, below-first, below-negated, below-chosen, below-collected, below-counted, below-caught, below-emit, below-events}
+use Rattle.pi_meaning.proofs.Traces.BelowLemmas.{below-refl, below-trans, below-antisym, below-whole, depth-enough, below-alt, below-then, below-first, below-negated, below-chosen, below-collected, below-counted, below-caught, below-emit, below-events}
 use Rattle.pi_meaning.proofs.laws.traces.more_depth.Goals as goal
 
 pub returns-clause-reflexive : goal.returns-clause-reflexive

@@ -1,6 +1,6 @@
 use Rattle.std.proofs.Common.{refl}
-use Rattle.pi_meaning.specs.Trace.{alt, then}
-use Rattle.pi_meaning.proofs.TraceLemmas.{alt-done, alt-assoc, then-one, then-assoc, then-alt}
+use Rattle.pi_meaning.specs.Traces.Trace.{alt, then}
+use Rattle.pi_meaning.proofs.Traces.TraceLemmas.{alt-done, alt-assoc, then-one, then-assoc, then-alt}
 use Rattle.pi_meaning.proofs.laws.traces.sequences.Goals as goal
 
 pub returns-clause-done_before : goal.returns-clause-done_before

@@ -1,6 +1,6 @@
 use Rattle.std.proofs.Common.{refl}
-use Rattle.pi_meaning.specs.Trace.{then}
-use Rattle.pi_meaning.proofs.TraceLemmas.{then-notes, alt-emit}
+use Rattle.pi_meaning.specs.Traces.Trace.{then}
+use Rattle.pi_meaning.proofs.Traces.TraceLemmas.{then-notes, alt-emit}
 use Rattle.pi_meaning.proofs.laws.traces.steps.Goals as goal
 
 pub returns-clause-end : goal.returns-clause-end

@@ -2,8 +2,8 @@ use Rattle.std.proofs.Common.{◌-◌, ◌≤◌, length}
 use Rattle.pi_lex.specs.Kinds.{kinds}
 use Rattle.pi_expr.specs.Faults.{stretch}
 use Rattle.pi_prog.specs.Pieces.{HoldsNames}
-use Rattle.pi_clauses.specs.Reading.{variable_names}
-use Rattle.pi_clauses.specs.Verdict.{most_names}
+use Rattle.pi_prog_clauses.specs.Reading.{variable_names}
+use Rattle.pi_prog_clauses.specs.Verdict.{most_names}
 use Rattle.pi_prog.proofs.reading.variables.has_too_many_names.Given as goal
 
 abbrev pub invariant-names : goal.invariant-names

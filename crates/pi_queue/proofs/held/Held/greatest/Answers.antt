@@ -1,6 +1,6 @@
 use Rattle.std.proofs.Common.{arith, sym, ◌∙◌}
 use Rattle.std.proofs.lemmas.Int.{ints}
-use Rattle.pi_places.proofs.DomainLemmas.{last_is, within_last}
+use Rattle.pi_prop_places.proofs.DomainLemmas.{last_is, within_last}
 use Rattle.pi_queue.proofs.HeldLemmas.{none-greatest, last-at}
 use Rattle.pi_queue.proofs.held.Held.greatest.Goals as goal
 

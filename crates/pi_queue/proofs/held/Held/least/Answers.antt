@@ -1,6 +1,6 @@
 use Rattle.std.proofs.Common.{arith}
 use Rattle.std.proofs.lemmas.Int.{ints}
-use Rattle.pi_places.proofs.DomainLemmas.{within_first}
+use Rattle.pi_prop_places.proofs.DomainLemmas.{within_first}
 use Rattle.pi_queue.proofs.HeldLemmas.{first-at}
 use Rattle.pi_queue.proofs.held.Held.least.Goals as goal
 

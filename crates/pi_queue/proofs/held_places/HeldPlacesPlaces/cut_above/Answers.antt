@@ -1,6 +1,6 @@
 use Rattle.std.proofs.Common.{rules}
 use Rattle.std.specs.Prelude.{int_le}
-use Rattle.pi_places.proofs.CutLemmas.{cut_past}
+use Rattle.pi_prop_places.proofs.CutLemmas.{cut_past}
 use Rattle.pi_queue.proofs.held_places.HeldPlacesPlaces.cut_above.Goals as goal
 
 pub returns-then-len-k : goal.returns-then-len-k

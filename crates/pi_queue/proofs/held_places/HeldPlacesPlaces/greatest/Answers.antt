@@ -1,5 +1,5 @@
 use Rattle.std.proofs.Common.{ap, sym, ◌∙◌, option_copied}
-use Rattle.pi_places.proofs.DomainLemmas.{nowhere_greatest}
+use Rattle.pi_prop_places.proofs.DomainLemmas.{nowhere_greatest}
 use Rattle.pi_queue.proofs.held_places.HeldPlacesPlaces.greatest.Goals as goal
 
 pub returns-in-None-clause-is : goal.returns-in-None-clause-is

@@ -1,5 +1,5 @@
 use Rattle.std.proofs.Common.{ap, sym, ◌∙◌, option_copied}
-use Rattle.pi_places.proofs.DomainLemmas.{nowhere_has}
+use Rattle.pi_prop_places.proofs.DomainLemmas.{nowhere_has}
 use Rattle.pi_queue.proofs.held_places.HeldPlacesPlaces.has.Goals as goal
 
 pub returns-in-None : goal.returns-in-None

@@ -1,6 +1,6 @@
 use Rattle.std.proofs.Common.{ap, sym, ◌∙◌, option_copied}
-use Rattle.pi_places.proofs.DomainLemmas.{nowhere}
-use Rattle.pi_places.proofs.AskLemmas.{none_between}
+use Rattle.pi_prop_places.proofs.DomainLemmas.{nowhere}
+use Rattle.pi_prop_places.proofs.AskLemmas.{none_between}
 use Rattle.pi_queue.proofs.held_places.HeldPlacesPlaces.has_between.Goals as goal
 
 pub returns-in-None : goal.returns-in-None

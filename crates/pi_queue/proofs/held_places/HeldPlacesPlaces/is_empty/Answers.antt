@@ -1,5 +1,5 @@
 use Rattle.std.proofs.Common.{refl, ap, sym, ◌∙◌, option_copied}
-use Rattle.pi_places.proofs.DomainLemmas.{nowhere}
+use Rattle.pi_prop_places.proofs.DomainLemmas.{nowhere}
 use Rattle.pi_queue.proofs.held_places.HeldPlacesPlaces.is_empty.Goals as goal
 
 pub returns-in-None : goal.returns-in-None

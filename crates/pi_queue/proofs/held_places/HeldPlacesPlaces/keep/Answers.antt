@@ -1,6 +1,6 @@
 use Rattle.std.proofs.Common.{rules}
 use Rattle.pi_constraints.specs.Domain.{has_value}
-use Rattle.pi_places.proofs.CutLemmas.{cut_past}
+use Rattle.pi_prop_places.proofs.CutLemmas.{cut_past}
 use Rattle.pi_queue.proofs.held_places.HeldPlacesPlaces.keep.Goals as goal
 
 pub returns-then-len-k : goal.returns-then-len-k

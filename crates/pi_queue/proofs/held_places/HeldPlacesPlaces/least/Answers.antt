@@ -1,5 +1,5 @@
 use Rattle.std.proofs.Common.{ap, sym, ◌∙◌, option_copied}
-use Rattle.pi_places.proofs.DomainLemmas.{nowhere_least, nowhere_spans}
+use Rattle.pi_prop_places.proofs.DomainLemmas.{nowhere_least, nowhere_spans}
 use Rattle.pi_queue.proofs.held_places.HeldPlacesPlaces.least.Goals as goal
 
 pub returns-in-None-clause-is : goal.returns-in-None-clause-is

@@ -1,6 +1,6 @@
 use Rattle.std.proofs.Common.{ap, sym, ◌∙◌, ◌++◌, option_copied}
 use Rattle.std.proofs.lemmas.List.{append-nil}
-use Rattle.pi_places.proofs.DomainLemmas.{nowhere}
+use Rattle.pi_prop_places.proofs.DomainLemmas.{nowhere}
 use Rattle.pi_queue.proofs.held_places.HeldPlacesPlaces.push_spans.Goals as goal
 
 pub returns-in-None : goal.returns-in-None

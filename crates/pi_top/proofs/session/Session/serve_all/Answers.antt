@@ -4,7 +4,7 @@ use Rattle.pi_core.specs.CoreTree.{program_tree}
 use Rattle.pi_syntax.specs.ProgramTree.{source_tree}
 use Rattle.pi_outside.proofs.InputRuns.{ByInput-none, ByInput-so, ByInput-then}
 use Rattle.pi_outside.proofs.WriteRuns.{ByWrites-none, ByWrites-so, ByWrites-then}
-use Rattle.pi_raw_store.specs.contracts.state_store.RawStoreStateStore.TheImpl as raw
+use Rattle.pi_store.specs.contracts.state_store.RawStoreStateStore.TheImpl as raw
 use Rattle.pi_outside.specs.Ahead.{at_start}
 use Rattle.pi_top.specs.declared.query.Stop.TheVariants.{Memory}
 use Rattle.pi_top.specs.Stops.{status_of_stop}

@@ -3,7 +3,7 @@ use Rattle.pi_core.specs.CoreTree.{program_tree}
 use Rattle.pi_syntax.specs.ProgramTree.{source_tree}
 use Rattle.pi_outside.specs.Inputs.{ByInput}
 use Rattle.pi_outside.specs.Writes.{ByWrites}
-use Rattle.pi_raw_store.specs.contracts.state_store.RawStoreStateStore.TheImpl as raw
+use Rattle.pi_store.specs.contracts.state_store.RawStoreStateStore.TheImpl as raw
 use Rattle.pi_top.specs.Runs.{AllWithin}
 use Rattle.pi_top.specs.AskingCode.{MayBeAsked}
 use Rattle.pi_top.specs.PresentCode.{IsBounded}

@@ -1,5 +1,0 @@
-use Rattle.pi_canonical.proofs.ProgramLaw.{canonical_is_reread}
-use Rattle.pi_canonical.proofs.laws.programs_are_reread.Goals as goal
-
-pub returns : goal.returns
-returns c = canonical_is_reread

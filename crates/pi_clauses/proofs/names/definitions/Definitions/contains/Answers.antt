@@ -1,7 +1,0 @@
-use Rattle.std.proofs.Common.{◌∙◌}
-use Rattle.pi_clauses.specs.Called.{named_by}
-use Rattle.pi_clauses.proofs.names.DefinitionLemmas.{contains_is}
-use Rattle.pi_clauses.proofs.names.definitions.Definitions.contains.Goals as goal
-
-pub returns : goal.returns
-returns c = λ names is. c.contains.ensures ∙ contains_is c.args.self.now c.args.name ∙ is.each (named_by c.args.name)

@@ -1,4 +1,0 @@
-use Rattle.pi_code.proofs.callables.Callables.add.Goals as goal
-
-pub returns : goal.returns
-returns c = λ n k. c.in_ok-insert.ensures.updates.0 (record { name = n; arity = k })

@@ -1,0 +1,195 @@
+-- A goal whose operands were evaluated, and what follows it.
+use Rattle.std.proofs.Common.{◌≡◌, ℕ, ◌+◌, ◌-◌, ◌^◌, ◌<◌, Bool, true, false, List, [], ◌∷◌, Option, Some, None, refl, sym, ◌∙◌, ap, subst, arith}
+use Rattle.std.specs.Prelude.{slice_get, codes, if◌then◌else◌}
+use Rattle.pi_terms.specs.Tree.{Tree}
+use Rattle.pi_terms.specs.Places.{Places}
+use Rattle.pi_meaning.specs.Shared.View.{View}
+use Rattle.pi_constraints.specs.State.{State, IsState, bindings}
+use Rattle.pi_constraints.specs.Value.{value}
+use Rattle.pi_constraints.specs.Store.{StoreView, Keeps}
+use Rattle.pi_constraints.specs.Unify.{unified}
+use Rattle.pi_constraints.specs.Evaluation.{Evaluated, evaluated}
+use Rattle.pi_core.specs.GoalTree.{GoalTree, GoalTrees, goal, call, nodes}
+use Rattle.pi_core.specs.GoalCells.{kind_of}
+use Rattle.pi_constraints.specs.declared.store.Ref.{Ref}
+use Rattle.pi_core.proofs.GoalPlaces.{nodes-children}
+use Rattle.pi_unify.specs.Answers.{Answers}
+use Rattle.pi_engine_arenas.specs.declared.frames.Point.{Point}
+use Rattle.pi_engine_code.specs.declared.code.Step.{Step}
+use Rattle.pi_engine_code.specs.declared.code.Node.{Node}
+use Rattle.pi_engine_code.specs.declared.code.Operand.{Operand}
+use Rattle.pi_engine_arenas.specs.declared.run.Now.{Now}
+use Rattle.pi_engine_code.specs.Code.{node_kind, operand_tree}
+use Rattle.pi_engine_arenas.specs.Frames.{point_behind, slot_number}
+use Rattle.pi_engine_arenas.specs.Arenas.{ArenasView}
+use Rattle.pi_meaning.specs.Machine.Configuration.{Frame, config, raising, Entry as EntryData}
+use Rattle.pi_meaning.specs.Machine.Step.{goal_step}
+use Rattle.pi_engine_stands.specs.Here.{Block, Holds, IsStepOf, NodeIsReadable, AreHere}
+use Rattle.pi_engine_stands.specs.Stands.{tables_in, World, steps_of, StackStands, Stands, StandsGoing, GoingIs, NowIs, going_now, failing_now, raising_now}
+use Rattle.pi_engine_stands.specs.Makes.{StandsAfter, raised_for}
+use Rattle.pi_engine_stands.specs.Evaluates.{Writes, Evaluates}
+use Rattle.pi_engine_stands.proofs.HereLemmas.{holds-extends}
+use Rattle.pi_engine_stands.proofs.PointLemmas.{FirstOf, first-of}
+use Rattle.pi_engine_stands.proofs.FramesStand.{going-of, going-size}
+use Rattle.pi_engine_stands.proofs.NodeLemmas.{kind-here}
+use Rattle.pi_engine_stands.proofs.StandsLemmas.{moved}
+use Rattle.pi_constraints.proofs.StateLemmas.{extends}
+use Rattle.pi_engine_stands.proofs.SlotsStand.{writes-none, writes-then}
+use Rattle.pi_engine_stands.proofs.WritesStand.{WritesTo, stack-written, going-written}
+use Rattle.pi_engine_stands.proofs.CallLemmas.{call-of, after_equal, equal-comes-to, throw-comes-to}
+
+-- ---- a goal that stands at a step
+
+-- the goal's step belongs to the block that runs
+pub step-of-block : {M : Type 0} (w : World M) (p : Point) (s : Step) (g : GoalTree) (gs : GoalTrees) (e : Places) (k : List Frame) → slice_get (steps_of w.loaded) p.place ≡ Some s →
+    (is : GoingIs w p (goal g gs) e k) → IsStepOf (tables_in w.loaded) is.block s
+step-of-block w p s g gs e k at is =
+    let first : FirstOf (tables_in w.loaded) (steps_of w.loaded) is.block p.place p.count g gs is.value is.last =
+    first-of (tables_in w.loaded) (steps_of w.loaded) is.block p.place p.count g gs is.value is.last is.goals in
+    first.here.of_block 0 s (omega (arith, nodes-children g)) (ap (slice_get (steps_of w.loaded)) (omega arith) ∙ at)
+
+-- where its slots begin
+pub first-slot-of : {M : Type 0} (w : World M) (p : Point) (s : Step) (g : GoalTree) (gs : GoalTrees) (e : Places) (k : List Frame) (first : ℕ) → slice_get (steps_of w.loaded) p.place ≡ Some s →
+    (is : GoingIs w p (goal g gs) e k) → first ≡ slot_number p.base s.first_slot → first ≡ slot_number is.block.base is.block.first
+first-slot-of w p s g gs e k first at is at_slot =
+    at_slot ∙ ap (λ n. slot_number n s.first_slot) (sym is.base) ∙ ap (slot_number is.block.base) (step-of-block w p s g gs e k at is).first
+
+-- its node can be read
+pub node-readable : {M : Type 0} (w : World M) (p : Point) (s : Step) (g : GoalTree) (gs : GoalTrees) (e : Places) (k : List Frame) (node : Node) → slice_get (steps_of w.loaded) p.place ≡ Some s →
+    (is : GoingIs w p (goal g gs) e k) → s.node ≡ node → NodeIsReadable (tables_in w.loaded) is.block node
+node-readable w p s g gs e k node at is is_node = subst (λ n. NodeIsReadable (tables_in w.loaded) is.block n) is_node (step-of-block w p s g gs e k at is).readable
+
+-- which goal it is
+pub kind-of-node : {M : Type 0} (w : World M) (p : Point) (s : Step) (g : GoalTree) (gs : GoalTrees) (e : Places) (k : List Frame) (node : Node) → slice_get (steps_of w.loaded) p.place ≡ Some s →
+    GoingIs w p (goal g gs) e k → s.node ≡ node → node_kind (tables_in w.loaded) node ≡ kind_of g
+kind-of-node w p s g gs e k node at is is_node =
+    kind-here (tables_in w.loaded) (steps_of w.loaded) is.block p.place g _ s node
+    (first-of (tables_in w.loaded) (steps_of w.loaded) is.block p.place p.count g gs is.value is.last is.goals).here at is_node
+
+-- the goals behind it run next
+pub going-behind : {M : Type 0} (w : World M) (p : Point) (s : Step) (g : GoalTree) (gs : GoalTrees) (e : Places) (k : List Frame) → slice_get (steps_of w.loaded) p.place ≡ Some s →
+    GoingIs w p (goal g gs) e k → GoingIs w (point_behind p s) gs e k
+going-behind w p s g gs e k at is =
+    let size : (s.size ≡ nodes g) × (p.place + nodes g < 2 ^ 32) = going-size w p s g gs e k at is in
+    record {
+      block = is.block;
+      base = is.base;
+      value = is.value;
+      last = is.last;
+      rest = is.rest;
+      goals = subst (λ n. AreHere (tables_in w.loaded) (steps_of w.loaded) is.block n (p.count - 1) gs is.value is.last) (ap (λ n. p.place + n) (sym size.0))
+          (first-of (tables_in w.loaded) (steps_of w.loaded) is.block p.place p.count g gs is.value is.last is.goals).behind;
+      behind = is.behind;
+      leaves = is.leaves;
+      frames = is.frames;
+      agrees = is.agrees;
+    }
+
+-- ---- the store alone changes
+
+pub writes-kept : {M : Type 0} (b : Block) (v w : StoreView M) (a : ArenasView M) (e : Places) → Keeps v w → Holds v.now.terms a.blocks.slots b e → Writes b v w a a e w.now.state
+writes-kept b v w a e keeps holds =
+    let same : Writes b v v a a e v.now.state = writes-none b v a e holds in
+    record {
+      keeps = keeps;
+      state = refl;
+      holds = holds-extends v.now.terms w.now.terms a.blocks.slots b e (extends v w keeps) holds;
+      as_many = refl;
+      front = refl;
+      back = refl;
+      blocks = same.blocks;
+      kept = refl;
+      rest = refl;
+    }
+
+-- ---- a run whose block was written
+
+abbrev pub writes-to : {M : Type 0} (w : World M) (v : StoreView M) (c : ArenasView M) (b : Block) (f : Places) (s : State) → Writes b w.store v w.arenas c f s → WritesTo w v c.blocks b f s
+writes-to w v c b f s writes = subst (λ r. Writes b w.store v w.arenas r f s) writes.rest writes
+
+pub stack-moved : {M : Type 0} (w : World M) (v : StoreView M) (c : ArenasView M) (b : Block) (f : Places) (s : State) (es : List EntryData) → Writes b w.store v w.arenas c f s → IsState v.now.state →
+    StackStands w es → StackStands (moved w v c) es
+stack-moved w v c b f s es writes state is =
+    subst (λ r. StackStands (moved w v r) es) (sym writes.rest) (stack-written w v c.blocks b f s es (writes-to w v c b f s writes) state is)
+
+pub going-moved : {M : Type 0} (w : World M) (v : StoreView M) (c : ArenasView M) (p : Point) (gs : GoalTrees) (e f : Places) (s : State) (k : List Frame) (es : List EntryData) → StackStands w es →
+    (is : GoingIs w p gs e k) → Writes is.block w.store v w.arenas c f s → GoingIs (moved w v c) p gs f k
+going-moved w v c p gs e f s k es stands is writes =
+    subst (λ r. GoingIs (moved w v r) p gs f k) (sym writes.rest) (going-written w v c.blocks p gs e f s k es stands is (writes-to w v c is.block f s writes))
+
+-- ---- two terms are made equal
+
+-- the block that runs
+abbrev pub block_of : {M : Type 0} (w : World M) (p : Point) (g : GoalTree) (gs : GoalTrees) (e : Places) (k : List Frame) (es : List EntryData) → StandsGoing w p (goal g gs) e k es → Block
+block_of w p g gs e k es stands = (going-of w p (goal g gs) e w.store.now.state k stands.runs).block
+
+equal-by : {M : Type 0} (w : World M) (v : StoreView M) (c : ArenasView M) (p : Point) (s : Step) (g : GoalTree) (gs : GoalTrees) (e f : Places) (k : List Frame) (es : List EntryData) (o : Option State) (one : Bool) (now : Now) →
+    slice_get (steps_of w.loaded) p.place ≡ Some s → StackStands w es → (is : GoingIs w p (goal g gs) e k) → Writes is.block w.store v w.arenas c f v.now.state → IsState v.now.state →
+    Answers o one v.now.state → now ≡ (if one then Now.Going (point_behind p s) else Now.Failing) → Stands (moved w v c) now (config (after_equal o gs f k) es)
+equal-by w v c p s g gs e f k es None one now at entries is writes state answers next =
+    subst (λ r. Stands (moved w v c) r (config (after_equal None gs f k) es)) (sym (next ∙ ap (λ q. if q then Now.Going (point_behind p s) else Now.Failing) answers))
+    (record { entries = stack-moved w v c is.block f v.now.state es writes state entries; runs = failing_now })
+equal-by w v c p s g gs e f k es (Some r) one now at entries is writes state answers next =
+    subst (λ q. Stands (moved w v c) q (config (after_equal (Some r) gs f k) es)) (sym (next ∙ ap (λ q. if q then Now.Going (point_behind p s) else Now.Failing) answers.0))
+    (record {
+      entries = stack-moved w v c is.block f v.now.state es writes state entries;
+      runs = subst (λ q. NowIs (moved w v c) (Now.Going (point_behind p s)) (after_equal (Some q) gs f k)) answers.1
+          (going_now (going-behind (moved w v c) p s g gs f k at (going-moved w v c p (goal g gs) e f v.now.state k es entries is writes)));
+    })
+
+-- both operands evaluated, one after the other
+pub both-evaluated : {M : Type 0} (b : Block) (v1 v2 v3 : StoreView M) (a1 a2 a3 : ArenasView M) (l r : Tree) (e : Places) (q1 q2 : Ref) →
+    let x : Evaluated = evaluated l e v1.now.state in
+    Evaluates b v1 v2 a1 a2 x q1 → Evaluates b v2 v3 a2 a3 (evaluated r x.slots v2.now.state) q2 → Evaluates b v1 v3 a1 a3 (evaluated r x.slots x.state) q2
+both-evaluated b v1 v2 v3 a1 a2 a3 l r e q1 q2 first second =
+    let x : Evaluated = evaluated l e v1.now.state in
+    subst (λ s. Evaluates b v1 v3 a1 a3 (evaluated r x.slots s) q2) first.writes.state
+    (record {
+      writes = writes-then b v1 v2 v3 a1 a2 a3 x.slots (evaluated r x.slots v2.now.state).slots x.state (evaluated r x.slots v2.now.state).state first.writes second.writes;
+      term = second.term;
+    })
+
+pub equal-step : {M : Type 0} (w : World M) (v u : StoreView M) (c : ArenasView M) (p : Point) (s : Step) (left right : Operand) (q : Ref) (one : Bool) (now : Now) (view : View) (g : GoalTree) (gs : GoalTrees) (e : Places) (k : List Frame) (es : List EntryData) →
+    s.node ≡ Node.Unify left right → slice_get (steps_of w.loaded) p.place ≡ Some s → (stands : StandsGoing w p (goal g gs) e k es) →
+    let x : Evaluated = evaluated (operand_tree (tables_in w.loaded) left) e w.store.now.state in
+    let y : Evaluated = evaluated (operand_tree (tables_in w.loaded) right) x.slots x.state in
+    Evaluates (block_of w p g gs e k es stands) w.store v w.arenas c y q → Keeps v u → Answers (unified y.state x.tree y.tree) one u.now.state → IsState u.now.state →
+    now ≡ (if one then Now.Going (point_behind p s) else Now.Failing) → StandsAfter (moved w u c) now (goal_step view w.loaded.preds g gs e w.store.now.state k es)
+unfolding node_kind
+equal-step w v u c p s left right q one now view g gs e k es node at stands both keeps answers state next =
+    let is : GoingIs w p (goal g gs) e k = going-of w p (goal g gs) e w.store.now.state k stands.runs in
+    let l : Tree = operand_tree (tables_in w.loaded) left in
+    let r : Tree = operand_tree (tables_in w.loaded) right in
+    let x : Evaluated = evaluated l e w.store.now.state in
+    let y : Evaluated = evaluated r x.slots x.state in
+    let it : g ≡ call (codes "=") (l ∷ r ∷ []) = call-of g (codes "=") (l ∷ r ∷ []) (kind-of-node w p s g gs e k (Node.Unify left right) at is node) in
+    let all : Writes is.block w.store u w.arenas c y.slots u.now.state =
+    writes-then is.block w.store v u w.arenas c c y.slots y.slots y.state u.now.state both.writes (writes-kept is.block v u c y.slots keeps both.writes.holds) in
+    subst (λ h. StandsAfter (moved w u c) now (goal_step view w.loaded.preds h gs e w.store.now.state k es)) (sym it)
+    (subst (λ h. StandsAfter (moved w u c) now h) (sym (equal-comes-to view w.loaded.preds l r gs e w.store.now.state k es))
+    (equal-by w u c p s g gs e y.slots k es (unified y.state x.tree y.tree) one now at stands.entries is all state answers next))
+
+-- what is next
+pub goes-on : (one : Bool) (now : Now) (p : Point) → one ≡ true → now ≡ Now.Going p → now ≡ (if one then Now.Going p else Now.Failing)
+goes-on one now p is next = next ∙ ap (λ q. if q then Now.Going p else Now.Failing) (sym is)
+
+pub fails : (one : Bool) (now : Now) (p : Point) → one ≡ false → now ≡ Now.Failing → now ≡ (if one then Now.Going p else Now.Failing)
+fails one now p is next = next ∙ ap (λ q. if q then Now.Going p else Now.Failing) (sym is)
+
+-- ---- an exception is raised
+
+pub throw-step : {M : Type 0} (w : World M) (v : StoreView M) (c : ArenasView M) (p : Point) (s : Step) (operand : Operand) (q : Ref) (ball : Tree) (view : View) (g : GoalTree) (gs : GoalTrees) (e : Places) (k : List Frame) (es : List EntryData) →
+    s.node ≡ Node.Throw operand → slice_get (steps_of w.loaded) p.place ≡ Some s → (stands : StandsGoing w p (goal g gs) e k es) →
+    let x : Evaluated = evaluated (operand_tree (tables_in w.loaded) operand) e w.store.now.state in
+    Evaluates (block_of w p g gs e k es stands) w.store v w.arenas c x q → IsState v.now.state → ball ≡ raised_for (value (bindings x.state) x.tree) →
+    StandsAfter (moved w v c) (Now.Raising ball) (goal_step view w.loaded.preds g gs e w.store.now.state k es)
+unfolding node_kind
+throw-step w v c p s operand q ball view g gs e k es node at stands value_is state raised =
+    let is : GoingIs w p (goal g gs) e k = going-of w p (goal g gs) e w.store.now.state k stands.runs in
+    let t : Tree = operand_tree (tables_in w.loaded) operand in
+    let x : Evaluated = evaluated t e w.store.now.state in
+    let it : g ≡ call (codes "throw") (t ∷ []) = call-of g (codes "throw") (t ∷ []) (kind-of-node w p s g gs e k (Node.Throw operand) at is node) in
+    subst (λ h. StandsAfter (moved w v c) (Now.Raising ball) (goal_step view w.loaded.preds h gs e w.store.now.state k es)) (sym it)
+    (subst (λ h. StandsAfter (moved w v c) (Now.Raising ball) h) (sym (throw-comes-to view w.loaded.preds t gs e w.store.now.state k es))
+    (subst (λ b. Stands (moved w v c) (Now.Raising ball) (config (raising b) es)) raised
+    (record { entries = stack-moved w v c is.block x.slots x.state es value_is.writes state stands.entries; runs = raising_now })))

@@ -1,0 +1,31 @@
+-- What the functions that try the facts of a call owe.
+use Rattle.std.specs.Prelude.{◌≡◌, ℕ, Bool, true, false, List, [], Some, map, slice_get, if◌then◌else◌}
+use Rattle.pi_terms.specs.Tree.{Trees, comp}
+use Rattle.pi_constraints.specs.State.{State, IsState}
+use Rattle.pi_constraints.specs.Store.{StoreView, IsTerm, Keeps}
+use Rattle.pi_constraints.specs.declared.store.Ref.{Ref}
+use Rattle.pi_core.specs.CoreTree.{ClauseTree, PredTree, clause_tree}
+use Rattle.pi_core.specs.declared.core_program.CoreClause.{CoreClause}
+use Rattle.pi_unify.specs.Answers.{Answers}
+use Rattle.pi_engine_code.specs.declared.code.Predicate.{Predicate}
+use Rattle.pi_engine_arenas.specs.declared.frames.Point.{Point}
+use Rattle.pi_engine_arenas.specs.declared.run.Now.{Now}
+use Rattle.pi_meaning.specs.Machine.Configuration.{Frame, Entry as EntryData}
+use Rattle.pi_meaning.specs.Machine.Step.{with_fact, try_facts, back_to}
+use Rattle.pi_engine_stands.specs.Stands.{World, Stands}
+use Rattle.pi_engine_stands.specs.Tries.{CallIs}
+
+-- a fact is unified with a call, and what is behind the call runs next
+pub record TakesFact {M : Type 0} (v u : StoreView M) (ts : Trees) (c : ClauseTree) (base frame : ℕ) (now : Now) : Type 0 where
+  pub one : Bool
+  pub keeps : Keeps v u
+  pub answers : Answers (with_fact ts v.now.state c) one u.now.state
+  pub sound : one ≡ true → IsState u.now.state
+  pub next : now ≡ (if one then Now.Going (record { place = 0; count = 0; base = base; frame = frame }) else Now.Failing)
+
+-- these facts of a call's predicate are tried from one on, where its arguments are those of a term
+abbrev pub TriesSome : {M : Type 0} → World M → World M → ℕ → ℕ → ℕ → ℕ → Predicate → List CoreClause → Ref → Bool → Now → Type 0
+TriesSome before after p base frame from predicate facts asked again now =
+    (pred : PredTree) (ts : Trees) (cs : List ClauseTree) (s : State) (k : List Frame) (es : List EntryData) → (is : CallIs before p base frame from (record { function = false; args = ts }) cs s k es again) →
+    slice_get before.loaded.preds p ≡ Some pred → slice_get before.loaded.code.predicates.items p ≡ Some predicate → pred.clauses ≡ map clause_tree facts →
+    IsTerm before.store asked (comp [] ts) → s ≡ before.store.now.state → Stands after now (try_facts ts cs (back_to [] s k) es)

@@ -1,0 +1,10 @@
+use Rattle.pi_expr_phrases.proofs.TreeLemmas.{and-shown, levels-and, deep-over}
+use Rattle.pi_syntax.specs.ExpTree.{and}
+use Rattle.std.proofs.Common.{suc, ap, ◌∙◌}
+use Rattle.pi_expr_phrases.proofs.built.control.and.Goals as goal
+
+pub returns-in-Kept : goal.returns-in-Kept
+returns-in-Kept c = λ es h. let k = rw c.in-Kept.is at h in c.over.ensures (and es) (and-shown _ _ k.0) (levels-and es ∙ ap suc k.1)
+
+pub returns-in-Deep : goal.returns-in-Deep
+returns-in-Deep c = λ es h. deep-over _ _ (levels-and es) (rw c.in-Deep.is at h)

@@ -1,0 +1,8 @@
+use Rattle.std.proofs.Common.{refl}
+use Rattle.pi_expr_phrases.proofs.frame.found_behind.Goals as goal
+
+pub returns-in-Some : goal.returns-in-Some
+returns-in-Some c = λ fs e h. rw (c.in-Some.ensures.0, c.in-Some.ensures.1) (c.found.ensures fs e h)
+
+pub returns-in-None : goal.returns-in-None
+returns-in-None c = λ fs e h. rw c.in-None.ensures refl

@@ -1,5 +1,0 @@
-use Rattle.pi_filters.proofs.PostingLemmas.{postings_may_be_posted}
-use Rattle.pi_filters.proofs.laws.postings.postings_may_be_posted.Goals as goal
-
-pub returns : goal.returns
-returns c = record { may = postings_may_be_posted }

@@ -1,5 +1,0 @@
-use Rattle.pi_finished.proofs.ItemLemmas.{none-judged}
-use Rattle.pi_finished.proofs.items.JudgedItems.new.Goals as goal
-
-pub returns : goal.returns
-returns c = none-judged c.new.result c.new.ensures

@@ -1,7 +1,0 @@
-use Rattle.std.specs.Prelude.{◌≡◌, false}
-use Rattle.pi_filters.specs.Limits.{are_narrow}
-use Rattle.pi_finished.specs.Kept.{terms_of}
-use Rattle.pi_finished.proofs.terms.Terms.are_narrow.Given as goal
-
-abbrev pub invariant-loop-coefficient : goal.invariant-loop-coefficient
-invariant-loop-coefficient l = are_narrow (terms_of false l.coefficient-iterator) ≡ are_narrow l.self

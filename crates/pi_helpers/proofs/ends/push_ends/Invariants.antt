@@ -1,6 +1,0 @@
-use Rattle.pi_helpers.specs.Helpers.{ending_of}
-use Rattle.pi_helpers.proofs.EndLemmas.{ClosedTo}
-use Rattle.pi_helpers.proofs.ends.push_ends.Given as goal
-
-abbrev pub invariant-loop-name : goal.invariant-loop-name
-invariant-loop-name l = ClosedTo (ending_of l.ending) l.names l.fn.variable l.fn.free l.slots l.initial.goals.items l.name-index l.at l.next l.goals.items

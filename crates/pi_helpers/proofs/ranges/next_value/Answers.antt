@@ -1,8 +1,0 @@
-use Rattle.std.proofs.lemmas.Result.{IfOk-weaker}
-use Rattle.pi_helpers.specs.Helpers.{loop_of}
-use Rattle.pi_helpers.proofs.StepLemmas.{value-is}
-use Rattle.pi_helpers.proofs.ranges.next_value.Goals as goal
-
-pub returns : goal.returns
-returns c =
-    IfOk-weaker c.in_turn.result _ _ (λ made so. value-is (loop_of c.args.l.now) c.args.turn.now c.args.first c.args.free c.in_ok-count.count c.in_ok-step.step c.in_ok-left.left c.new-goals.result.items c.push_of_slots.new.goals.items c.push_with_one.new.goals.items c.push_tick.new.goals.items c.push.new.self.items c.in_ok-call.call made c.in_ok-count.ensures c.in_ok-step.ensures c.in_ok-left.ensures c.new-goals.ensures.items c.in_ok-push_of_slots.ensures c.in_ok-push_with_one.ensures c.in_ok-push_tick.ensures c.in_ok-call.ensures c.in_ok-push.ensures.items so) c.in_turn.ensures

@@ -1,9 +1,0 @@
-use Rattle.std.proofs.lemmas.Result.{IfOk-weaker}
-use Rattle.pi_core.specs.CoreTree.{pred_tree}
-use Rattle.pi_helpers.specs.Helpers.{loop_of}
-use Rattle.pi_helpers.proofs.StepLemmas.{range-is}
-use Rattle.pi_helpers.proofs.ranges.range_helper.Goals as goal
-
-pub returns : goal.returns
-returns c =
-    IfOk-weaker c.simple_helper.result _ _ (λ made so. range-is (loop_of c.args.l.now) c.args.turn.now c.as_str.result.now c.in_ok-count.count c.in_ok-size.size c.in_ok-body.body (pred_tree made) c.in_ok-count.ensures c.in_ok-size.ensures c.in_ok-body.ensures c.as_str.ensures so) c.simple_helper.ensures

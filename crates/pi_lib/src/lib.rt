@@ -1,0 +1,28 @@
+//! What calls of built-in predicates and functions come to, over any store: those that sort lists, that make variables, ranges
+//! and copies, and those of texts among them.
+#![tactic(auto)]
+
+mod arguments;
+mod characters;
+mod collections;
+mod copies;
+mod extremes;
+mod formats;
+mod functions;
+mod grids;
+mod lists;
+mod merging;
+mod pairs;
+mod placed;
+mod predicates;
+mod ranges;
+mod runs;
+mod signs;
+mod sizes;
+mod sorting;
+mod texts;
+mod variables;
+
+pub use functions::call_function;
+pub use predicates::{Outcome, call_predicate};
+pub use runs::{LibStep, LibValue, run_function, run_predicate};

@@ -1,0 +1,9 @@
+-- Lemmas on what both meanings are made of.
+pub mod CallLemmas
+pub mod FoundLemmas
+pub mod KnownLemmas
+pub mod LevelLemmas
+pub mod NamesApart
+pub mod WholeExamples
+pub mod WholeLemmas
+pub mod TableLemmas

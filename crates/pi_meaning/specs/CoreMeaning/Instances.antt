@@ -1,0 +1,41 @@
+-- The two kinds of built-ins that the core meaning is taken with: those of the tables, which is what a machine runs so far; and all of the language, for a program. (A User's
+-- Guide to Picat, 'Appendix: Predicates and Functions'; which names are there is own.)
+use Rattle.std.specs.Prelude.{ℕ, Bool, false, not, cond, List, Option, Some, None}
+use Rattle.pi_terms.specs.Tree.{Trees, tree_count}
+use Rattle.pi_constraints.specs.State.{State}
+use Rattle.pi_core.specs.CoreTree.{PredTree, find_pred}
+use Rattle.pi_meaning.specs.Traces.Trace.{Trace, done}
+use Rattle.pi_meaning.specs.Shared.View.{View}
+use Rattle.pi_meaning.specs.Shared.Level.{Level}
+use Rattle.pi_meaning.specs.Shared.Names.{is_call}
+use Rattle.pi_meaning.specs.Shared.Builtin.{effect, function_effect}
+use Rattle.pi_meaning.specs.CoreMeaning.Builtins.{Builtins}
+use Rattle.pi_meaning.specs.Shared.Given.{Later, Setting}
+use Rattle.pi_meaning.specs.Shared.Calls.{predicate_given, function_given, first_called, unknown_name}
+
+-- what the tables of built-ins have
+abbrev pub tabled : View → Builtins
+tabled v = record { predicate = λ l name ts s. effect v name ts s; function = λ l name ts s. function_effect name ts s }
+
+-- `call` leads to a predicate of the program that isn't quiet
+abbrev pub is_called_by_name : Option PredTree → Bool
+is_called_by_name None = false
+is_called_by_name (Some pred) = not pred.quiet
+
+abbrev pub core_setting : View → Later → List PredTree → Setting
+core_setting v later preds = record { view = v; later = later; defines = λ name k. is_called_by_name (find_pred false name k preds) }
+
+-- `call` calls a term, and any other name does what it does by itself
+abbrev pub predicate_or_call : Setting → Level → List ℕ → Trees → State → Option (Trace State)
+predicate_or_call set l name ts s = cond (is_call name (tree_count ts)) (Some (first_called set l ts s)) (predicate_given set l name ts s)
+
+-- No later stage is there: what it will give is as unknown to `call` as a name that nothing has.
+abbrev pub no_later : Later
+no_later = record { predicate = λ v l name ts s. unknown_name name (tree_count ts); function = λ name ts s. done }
+
+-- all names of the language, for a program
+abbrev pub whole : View → Later → List PredTree → Builtins
+whole v later preds = record {
+  predicate = λ l name ts s. predicate_or_call (core_setting v later preds) l name ts s;
+  function = λ l name ts s. function_given (core_setting v later preds) name ts s;
+}

@@ -1,0 +1,379 @@
+-- One step of the machine.
+use Rattle.std.specs.Prelude.{ℕ, zero, suc, nat_lt, cond, pos, Bool, true, false, List, [], ◌∷◌, ◌++◌, Option, Some, None, option_and_then, is_some, codes, slice_set, replicate}
+use Rattle.std.specs.List.{list_any}
+use Rattle.pi_terms.specs.Tree.{Tree, int, atom, comp, Trees, no_trees, tree, trees_of, tree_count, cells, most_cells}
+use Rattle.pi_terms.specs.Places.{Places, held}
+use Rattle.pi_terms.specs.Copy.{copy, new_variables}
+use Rattle.pi_constraints.specs.Value.{value}
+use Rattle.pi_constraints.specs.State.{State, bindings, next, empty_state, followed}
+use Rattle.pi_constraints.specs.Unify.{unified}
+use Rattle.pi_core.specs.GoalTree.{GoalTree, truth, fail, tick, call, apply, seq, alternatives, if_else, not, once, collect, count, catch, GoalTrees, no_goals, goal}
+use Rattle.pi_core.specs.CoreTree.{ClauseTree, PredTree, QueryTree, find_pred, leaves_others}
+use Rattle.pi_meaning.specs.Traces.Trace.{End, Done, Raise}
+use Rattle.pi_effects.specs.Effect.{Effect, Succeeds, Fails, Writes, Raises, FunctionEffect, Gives, Refuses}
+use Rattle.pi_effects.specs.BuiltIns.{built_in_predicate, built_in_function}
+use Rattle.pi_effects.specs.Exception.{type_error}
+use Rattle.pi_effects.specs.Items.{each_tree}
+use Rattle.pi_meaning.specs.Shared.Names.{is_later_predicate, is_later_function, is_planner, is_resource, is_call}
+use Rattle.pi_meaning.specs.Shared.Calls.{Called as Named, called_by}
+use Rattle.pi_meaning.specs.CoreMeaning.Instances.{is_called_by_name}
+use Rattle.pi_meaning.specs.Machine.NamedGoals.{goal_by_name}
+use Rattle.pi_meaning.specs.Shared.Within.{Within, a_query, a_body, is_body}
+use Rattle.pi_meaning.specs.Shared.View.{View}
+use Rattle.pi_constraints.specs.Evaluation.{Evaluated, evaluated, EvaluatedAll, evaluated_all, with_new_variables}
+use Rattle.pi_constraints.specs.HeadMatch.{matched_all_in}
+use Rattle.pi_meaning.specs.CoreMeaning.Facts.{fact_terms, unified_with, fits_modes}
+use Rattle.pi_meaning.specs.CoreMeaning.Meaning.{slot_value}
+use Rattle.pi_syntax.specs.declared.program.Mode.{Mode}
+use Rattle.pi_terms.specs.ListCopies.{list_of_copies, new_in_all}
+use Rattle.pi_meaning.specs.CoreMeaning.Run.{Solution}
+use Rattle.pi_core.specs.declared.core_program.NameSlot.{NameSlot}
+use Rattle.pi_meaning.specs.Machine.Configuration.{Frame, more, return, give, Back, Called, Choice, rules_left, facts_left, branches_left, Strict, once_level, not_level, if_level, guard_level, value_level, list_level, number_level, Entry, choice, strict, catch_level, left, Now, going, telling, failed, raising, Config, config, behind, returning, after_body, in_places}
+
+-- what a step comes to: the next configuration; the same after a Tick; the same, where a quiet call was entered; the same, where `call` has led one
+-- down; a text that is written and the next configuration; an answer and the next one; the end
+pub data Outcome : Type 0 where
+  silently : Config → Outcome
+  with_tick : Config → Outcome
+  quietly : Config → Outcome
+  deeper : Config → Outcome
+  writing : List ℕ → Config → Outcome
+  answering : Solution → Config → Outcome
+  ending : End → Outcome
+
+-- ---- parts of steps
+
+abbrev pub back_to : Places → State → List Frame → Back
+back_to e s k = record { slots = e; state = s; frames = k }
+
+-- one goal
+abbrev pub run_goal : GoalTree → Places → State → List Frame → Now
+run_goal g e s k = going (goal g no_goals) e s k
+
+-- the goal of a new level
+abbrev pub inside : GoalTree → Places → State → Entry → List Entry → Config
+inside g e s level es = config (run_goal g e s []) (level ∷ es)
+
+-- the first branch; the others stay as a choice
+abbrev pub branch : GoalTrees → Back → List Entry → Config
+branch no_goals b es = config failed es
+branch (goal g no_goals) b es = config (run_goal g b.slots b.state b.frames) es
+branch (goal g (goal h hs)) b es = config (run_goal g b.slots b.state b.frames) (choice (branches_left (goal h hs)) b ∷ es)
+
+-- a rule whose guard has an answer: a backtrackable one keeps the rules behind it, where there are any
+abbrev pub later_rules : Bool → Called → List ClauseTree → Back → List Entry → List Entry
+later_rules false called cs b es = es
+later_rules true called [] b es = es
+later_rules true called (c ∷ cs) b es = choice (rules_left called (c ∷ cs)) b ∷ es
+
+-- the body of a rule that applies, with these slots
+abbrev pub taken : Called → ClauseTree → List ClauseTree → Back → List Entry → Places → State → Config
+taken called c cs b es e s = config (run_goal c.body e s (after_body called.function c b.frames)) (later_rules (leaves_others called.function c) called cs b es)
+
+-- the guard of a rule whose head matches; `true` needs no level
+abbrev pub guarding : GoalTree → Called → ClauseTree → List ClauseTree → Back → List Entry → Places → Config
+guarding truth called c cs b es e = taken called c cs b es e b.state
+guarding g called c cs b es e = inside g e b.state (strict (guard_level called c cs) b) es
+
+-- the first rule whose head matches
+abbrev pub tried : Called → ClauseTree → List ClauseTree → Back → List Entry → Option Places → Config → Config
+tried called c cs b es None otherwise = otherwise
+tried called c cs b es (Some e) otherwise = guarding c.guard called c cs b es e
+
+unfoldable pub try_rules : Called → List ClauseTree → Back → List Entry → Config
+try_rules called [] b es = config failed es
+try_rules called (c ∷ cs) b es =
+    tried called c cs b es (matched_all_in (bindings b.state) c.head called.args (replicate c.slots None)) (try_rules called cs b es)
+
+-- ---- facts
+
+-- the state in which a call's arguments are those of a fact
+abbrev pub with_fact : Trees → State → ClauseTree → Option State
+with_fact ts s c = option_and_then (unified_with ts) (fact_terms c.head (replicate c.slots None) s)
+
+-- the facts from the first one on that unifies with a call
+unfoldable pub from_unifying : Trees → State → List ClauseTree → List ClauseTree
+from_unifying ts s [] = []
+from_unifying ts s (c ∷ cs) = cond (is_some (with_fact ts s c)) (c ∷ cs) (from_unifying ts s cs)
+
+-- facts are kept where there are any
+abbrev pub later_facts : Trees → List ClauseTree → Back → List Entry → List Entry
+later_facts ts [] b es = es
+later_facts ts (c ∷ cs) b es = choice (facts_left ts (c ∷ cs)) b ∷ es
+
+-- A fact that unifies: what is behind the call goes on. Those behind the fact stay from the next one on that unifies too, so
+-- that nothing is left where none does.
+abbrev pub fact_tried : Trees → List ClauseTree → Back → List Entry → Option State → Config → Config
+fact_tried ts cs b es None otherwise = otherwise
+fact_tried ts cs b es (Some r) otherwise = config (going no_goals b.slots r b.frames) (later_facts ts (from_unifying ts b.state cs) b es)
+
+-- the first fact that unifies
+unfoldable pub try_facts : Trees → List ClauseTree → Back → List Entry → Config
+try_facts ts [] b es = config failed es
+try_facts ts (c ∷ cs) b es = fact_tried ts cs b es (with_fact ts b.state c) (try_facts ts cs b es)
+
+-- the clauses of a predicate: rules, or facts, of which a call fails that no mode list fits
+unfoldable pub try_clauses : Option (List (List Mode)) → List ClauseTree → Trees → Back → List Entry → Config
+try_clauses None cs ts b es = try_rules (record { function = false; args = ts }) cs b es
+try_clauses (Some lists) cs ts b es = cond (list_any (λ modes. fits_modes (bindings b.state) modes ts) lists) (try_facts ts cs b es) (config failed es)
+
+-- what is raised where a term is too large to be copied
+abbrev pub ball_of : Tree → Tree → Tree
+ball_of t ball = cond (nat_lt most_cells (cells t)) (atom (codes "term_too_large")) ball
+
+-- a function call without an answer
+abbrev pub unresolved : Tree → State → Tree
+unresolved called s = let t : Tree = value (bindings s) called in ball_of t (comp (codes "unresolved_function_call") (tree (copy 0 t) no_trees))
+
+-- ---- goals
+
+-- a text that is written; what belongs to the body of a planner call may write none
+abbrev pub written_now : Bool → List ℕ → GoalTrees → Places → State → List Frame → Now
+written_now true text gs e s k = raising (atom (codes "output_in_plan"))
+written_now false text gs e s k = telling text gs e s k
+
+-- after the effect of a built-in predicate, and of a built-in function, whose value goes into a slot
+abbrev pub done_now : View → Effect → GoalTrees → Places → List Frame → Now
+done_now v (Succeeds s) gs e k = going gs e s k
+done_now v Fails gs e k = failed
+done_now v (Writes text s) gs e k = written_now (is_body v.within) text gs e s k
+done_now v (Raises ball) gs e k = raising ball
+
+abbrev pub given_now : FunctionEffect → ℕ → GoalTrees → Places → List Frame → Now
+given_now (Gives t s) into gs e k = going gs (slice_set e into (Some t)) s k
+given_now (Refuses ball) into gs e k = raising ball
+
+-- what is raised of a name with so many arguments that isn't known
+abbrev pub unknown_ball : List ℕ → ℕ → Tree
+unknown_ball name k = comp (codes "unknown_name") (tree (atom name) (tree (int (pos k)) no_trees))
+
+-- a call of a predicate of the program
+abbrev pub call_step : Bool → Config → Outcome
+call_step true c = quietly c
+call_step false c = with_tick c
+
+abbrev pub predicate_step : Option PredTree → EvaluatedAll → List Frame → List Entry → Outcome
+predicate_step None all k es = silently (config failed es)
+predicate_step (Some pred) all k es =
+    call_step pred.quiet (try_clauses pred.index pred.clauses all.trees (back_to [] all.state (returning all.slots k)) es)
+
+-- what a later stage of the language gives isn't there
+abbrev pub later_step : Bool → List PredTree → List ℕ → EvaluatedAll → List Frame → List Entry → Outcome
+later_step true preds name all k es = silently (config (raising (unknown_ball name (tree_count all.trees))) es)
+later_step false preds name all k es = predicate_step (find_pred false name (tree_count all.trees) preds) all k es
+
+abbrev pub effect_step : View → Option Effect → List PredTree → List ℕ → EvaluatedAll → GoalTrees → List Frame → List Entry → Outcome
+effect_step v (Some e) preds name all gs k es = silently (config (done_now v e gs all.slots k) es)
+effect_step v None preds name all gs k es = later_step (is_later_predicate name (tree_count all.trees)) preds name all (behind gs k) es
+
+-- ---- `call`
+
+abbrev pub is_defined : List PredTree → List ℕ → ℕ → Bool
+is_defined preds name k = is_called_by_name (find_pred false name k preds)
+
+-- what is raised of a name that `call` finds nothing for; of a planner call it tells the first predicate that such a call wants and the program lacks
+unfoldable pub unknown_by : List PredTree → List ℕ → ℕ → Tree
+unknown_by preds name k =
+    cond (is_planner name k)
+    (cond (is_defined preds (codes "final") 1) (cond (is_defined preds (codes "action") 4) (unknown_ball name k) (unknown_ball (codes "action") 4)) (unknown_ball (codes "final") 1))
+    (unknown_ball name k)
+
+-- the goal by which a name is called; a planner call has none
+abbrev pub goal_called : List PredTree → List ℕ → ℕ → Option GoalTree
+goal_called preds name k = cond (is_planner name k) None (goal_by_name preds name k)
+
+-- a goal by a name runs in slots of its own, with these arguments
+abbrev pub named_now : Option GoalTree → Tree → Trees → State → List Frame → Now
+named_now None ball args s k = raising ball
+named_now (Some g) ball args s k = run_goal g (in_places args) s k
+
+-- a term that is called, by what it names
+abbrev pub term_now : List PredTree → Tree → State → List Frame → Option Named → Now
+term_now preds t s k None = raising (type_error (codes "callable") t s)
+term_now preds t s k (Some c) = named_now (goal_called preds c.name (tree_count c.args)) (unknown_by preds c.name (tree_count c.args)) c.args s k
+
+-- of the arguments of `call` the first is called, and the others are arguments behind its own
+unfoldable pub first_now : List PredTree → Trees → State → List Frame → Now
+first_now preds no_trees s k = failed
+first_now preds (tree t ts) s k = term_now preds t s k (called_by (followed (bindings s) t) (each_tree ts))
+
+-- a goal by its name: `call`, or any other
+abbrev pub name_step : Bool → View → List PredTree → List ℕ → EvaluatedAll → GoalTrees → List Frame → List Entry → Outcome
+name_step true v preds name all gs k es = deeper (config (first_now preds all.trees all.state (returning all.slots (behind gs k))) es)
+name_step false v preds name all gs k es = effect_step v (built_in_predicate name all.trees all.state) preds name all gs k es
+
+-- a call of a function of the program, inside of a level
+abbrev pub function_step : Option PredTree → EvaluatedAll → ℕ → List Frame → List Entry → Outcome
+function_step None all into k es = silently (config failed es)
+function_step (Some pred) all into k es =
+    call_step pred.quiet (try_rules (record { function = true; args = all.trees }) pred.clauses (back_to [] all.state [])
+    (strict (value_level (comp pred.name all.trees) into) (back_to all.slots all.state k) ∷ es))
+
+-- `current_resource()`
+abbrev pub resource_effect : Within → State → FunctionEffect
+resource_effect a_query s = Refuses (atom (codes "no_resource"))
+resource_effect (a_body n) s = Gives (int (pos n)) s
+
+-- what a later stage of the language gives has no answer
+abbrev pub later_value : Bool → List PredTree → List ℕ → EvaluatedAll → ℕ → List Frame → List Entry → Outcome
+later_value true preds name all into k es = silently (config failed es)
+later_value false preds name all into k es = function_step (find_pred true name (tree_count all.trees) preds) all into k es
+
+abbrev pub other_value : Bool → View → List PredTree → List ℕ → EvaluatedAll → ℕ → GoalTrees → List Frame → List Entry → Outcome
+other_value true v preds name all into gs k es = silently (config (given_now (resource_effect v.within all.state) into gs all.slots k) es)
+other_value false v preds name all into gs k es = later_value (is_later_function name (tree_count all.trees)) preds name all into (behind gs k) es
+
+abbrev pub value_step : View → Option FunctionEffect → List PredTree → List ℕ → EvaluatedAll → ℕ → GoalTrees → List Frame → List Entry → Outcome
+value_step v (Some e) preds name all into gs k es = silently (config (given_now e into gs all.slots k) es)
+value_step v None preds name all into gs k es = other_value (is_resource name (tree_count all.trees)) v preds name all into gs k es
+
+-- a goal, the goals and frames behind it
+unfoldable pub goal_step : View → List PredTree → GoalTree → GoalTrees → Places → State → List Frame → List Entry → Outcome
+goal_step v preds truth gs e s k es = silently (config (going gs e s k) es)
+goal_step v preds fail gs e s k es = silently (config failed es)
+goal_step v preds tick gs e s k es = with_tick (config (going gs e s k) es)
+goal_step v preds (call name args) gs e s k es =
+    let all : EvaluatedAll = evaluated_all (trees_of args) e s in name_step (is_call name (tree_count all.trees)) v preds name all gs k es
+goal_step v preds (apply name args into) gs e s k es =
+    let all : EvaluatedAll = evaluated_all (trees_of args) e s in value_step v (built_in_function name all.trees all.state) preds name all into gs k es
+goal_step v preds (seq hs) gs e s k es = silently (config (going hs e s (behind gs k)) es)
+goal_step v preds (alternatives hs) gs e s k es = silently (branch hs (back_to e s (behind gs k)) es)
+goal_step v preds (if_else test g other) gs e s k es = silently (inside test e s (strict (if_level g other) (back_to e s (behind gs k))) es)
+goal_step v preds (not g) gs e s k es = silently (inside g e s (strict not_level (back_to e s (behind gs k))) es)
+goal_step v preds (once g) gs e s k es = silently (inside g e s (strict once_level (back_to e s (behind gs k))) es)
+goal_step v preds (collect g slot into) gs e s k es = silently (inside g e s (strict (list_level slot into []) (back_to e s (behind gs k))) es)
+goal_step v preds (count g into) gs e s k es = silently (inside g e s (strict (number_level into 0) (back_to e s (behind gs k))) es)
+goal_step v preds (catch g ball handler) gs e s k es =
+    let c : Evaluated = evaluated ball e s in
+    silently (inside g c.slots c.state (catch_level c.tree handler (back_to c.slots c.state (behind gs k))) es)
+
+-- ---- frames
+
+unfoldable pub frame_step : Frame → Places → State → List Frame → List Entry → Config
+frame_step (more gs) e s k es = config (going gs e s k) es
+frame_step (return f) e s k es = config (going no_goals f s k) es
+frame_step (give None) e s k es = config failed es
+frame_step (give (Some t)) e s k es = let r : Evaluated = evaluated t e s in config (going no_goals (Some r.tree ∷ []) r.state []) es
+
+-- ---- answers
+
+-- the newest open level of a stack, with what lies above and below it
+pub data Open : Type 0 where
+  none_open : Open
+  strict_open : List Entry → Strict → Back → List Entry → Open
+  catch_open : List Entry → Tree → GoalTree → Back → List Entry → Open
+
+abbrev pub beneath : Entry → Open → Open
+beneath x none_open = none_open
+beneath x (strict_open above s b below) = strict_open (x ∷ above) s b below
+beneath x (catch_open above ball handler b below) = catch_open (x ∷ above) ball handler b below
+
+-- behind so many marks of a `catch` that was left, the same number of them is passed
+unfoldable pub newest_open : ℕ → List Entry → Open
+newest_open n [] = none_open
+newest_open n (choice c b ∷ es) = beneath (choice c b) (newest_open n es)
+newest_open zero (strict s b ∷ es) = strict_open [] s b es
+newest_open (suc n) (strict s b ∷ es) = beneath (strict s b) (newest_open (suc n) es)
+newest_open zero (catch_level ball handler b ∷ es) = catch_open [] ball handler b es
+newest_open (suc n) (catch_level ball handler b ∷ es) = beneath (catch_level ball handler b) (newest_open n es)
+newest_open n (left ∷ es) = beneath left (newest_open (suc n) es)
+
+-- one more value is collected
+abbrev pub list_step : Tree → ℕ → ℕ → List Tree → List Entry → Back → List Entry → Config
+list_step t slot into got above b below =
+    config (cond (nat_lt most_cells (cells t)) (raising (atom (codes "term_too_large"))) failed)
+    (above ++ strict (list_level slot into (cond (nat_lt most_cells (cells t)) got (got ++ t ∷ []))) b ∷ below)
+
+-- an answer of a level
+unfoldable pub strict_step : Strict → Places → State → List Entry → Back → List Entry → Config
+strict_step once_level e s above b below = config (going no_goals e s b.frames) below
+strict_step not_level e s above b below = config failed below
+strict_step (if_level g other) e s above b below = config (run_goal g e s b.frames) below
+strict_step (guard_level called c cs) e s above b below = taken called c cs b below e s
+strict_step (value_level called into) e s above b below = config (going no_goals (slice_set b.slots into (held e 0)) s b.frames) below
+strict_step (list_level slot into got) e s above b below = list_step (slot_value slot e s) slot into got above b below
+strict_step (number_level into n) e s above b below = config failed (above ++ strict (number_level into (suc n)) b ∷ below)
+
+-- a `catch` that is left: it stays where there are choices in it
+abbrev pub leave : List Entry → Tree → GoalTree → Back → List Entry → List Entry
+leave [] ball handler b below = below
+leave (x ∷ above) ball handler b below = left ∷ ((x ∷ above) ++ catch_level ball handler b ∷ below)
+
+-- no value of the named variables is too large
+unfoldable pub fits : List NameSlot → Solution → Bool
+fits [] x = true
+fits (n ∷ names) x = cond (nat_lt most_cells (cells (slot_value n.slot x.slots x.state))) false (fits names x)
+
+abbrev pub told_step : Bool → Solution → List Entry → Outcome
+told_step true x es = answering x (config failed es)
+told_step false x es = silently (config (raising (atom (codes "term_too_large"))) [])
+
+-- an answer with no frame left
+unfoldable pub answer_step : List NameSlot → Places → State → List Entry → Open → Outcome
+answer_step names e s es none_open =
+    let x : Solution = record { slots = e; state = s } in told_step (fits names x) x es
+answer_step names e s es (strict_open above level b below) = silently (strict_step level e s above b below)
+answer_step names e s es (catch_open above ball handler b below) =
+    silently (config (going no_goals e s b.frames) (leave above ball handler b below))
+
+-- ---- no further answer
+
+abbrev pub choice_step : Choice → Back → List Entry → Config
+choice_step (rules_left called cs) b es = try_rules called cs b es
+choice_step (facts_left ts cs) b es = try_facts ts cs b es
+choice_step (branches_left gs) b es = branch gs b es
+
+unfoldable pub end_step : Strict → Back → List Entry → Config
+end_step once_level b es = config failed es
+end_step not_level b es = config (going no_goals b.slots b.state b.frames) es
+end_step (if_level g other) b es = config (run_goal other b.slots b.state b.frames) es
+end_step (guard_level called c cs) b es = try_rules called cs b es
+end_step (value_level called into) b es = config (raising (unresolved called b.state)) es
+end_step (list_level slot into got) b es =
+    config (going no_goals (slice_set b.slots into (Some (list_of_copies (next b.state) got))) (with_new_variables (new_in_all got) b.state) b.frames) es
+end_step (number_level into n) b es = config (going no_goals (slice_set b.slots into (Some (int (pos n)))) b.state b.frames) es
+
+unfoldable pub fail_step : List Entry → Outcome
+fail_step [] = ending Done
+fail_step (choice c b ∷ es) = silently (choice_step c b es)
+fail_step (strict s b ∷ es) = silently (end_step s b es)
+fail_step (catch_level ball handler b ∷ es) = silently (config failed es)
+fail_step (left ∷ es) = silently (config failed es)
+
+-- ---- exceptions
+
+-- what is caught runs the handler, anything else is raised on
+abbrev pub handler_step : GoalTree → Back → Tree → Option State → Now
+handler_step handler b raised None = raising raised
+handler_step handler b raised (Some s) = run_goal handler b.slots s b.frames
+
+-- below the `catch` that was left: what is raised comes from behind it
+abbrev pub below_left : Open → List Entry → List Entry
+below_left none_open es = es
+below_left (strict_open above s b below) es = es
+below_left (catch_open above ball handler b below) es = below
+
+unfoldable pub raise_step : Tree → List Entry → Outcome
+raise_step raised [] = ending (Raise raised)
+raise_step raised (choice c b ∷ es) = silently (config (raising raised) es)
+raise_step raised (strict s b ∷ es) = silently (config (raising raised) es)
+raise_step raised (catch_level ball handler b ∷ es) =
+    silently (config (handler_step handler b raised (unified (with_new_variables (new_variables raised) b.state) ball (copy (next b.state) raised))) es)
+raise_step raised (left ∷ es) = silently (config (raising raised) (below_left (newest_open zero es) es))
+
+-- ---- all
+
+abbrev pub now_step : View → List PredTree → List NameSlot → Now → List Entry → Outcome
+now_step v preds names (going (goal g gs) e s k) es = goal_step v preds g gs e s k es
+now_step v preds names (going no_goals e s (f ∷ k)) es = silently (frame_step f e s k es)
+now_step v preds names (going no_goals e s []) es = answer_step names e s es (newest_open zero es)
+now_step v preds names (telling text gs e s k) es = writing text (config (going gs e s k) es)
+now_step v preds names failed es = fail_step es
+now_step v preds names (raising raised) es = raise_step raised es
+
+unfoldable pub step : View → List PredTree → List NameSlot → Config → Outcome
+step v preds names c = now_step v preds names c.now c.stack
+
+-- the machine at the beginning of a query
+abbrev pub start : QueryTree → Config
+start q = config (run_goal q.goal (replicate q.slots None) empty_state []) []

@@ -1,0 +1,22 @@
+-- The meaning over names, of programs and goals as they are written.
+pub mod Environment
+pub mod Place
+pub mod Small
+pub mod Surface
+pub mod Telling
+pub mod WrittenRules
+pub mod Texts
+pub mod Assigning
+pub mod Terms
+pub mod Heads
+pub mod Stages
+pub mod Control
+pub mod Loops
+pub mod Forms
+pub mod Goals
+pub mod Rules
+pub mod Prelude
+pub mod Kinds
+pub mod Run
+pub mod Laws
+pub mod OtherNames

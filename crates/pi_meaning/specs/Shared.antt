@@ -1,0 +1,13 @@
+-- What both meanings are made of: views, levels, effects, exceptions, settling and draining; calls by name.
+pub mod Builtin
+pub mod Calls
+pub mod Drain
+pub mod Given
+pub mod Handling
+pub mod Level
+pub mod Names
+pub mod Raise
+pub mod Settle
+pub mod Told
+pub mod View
+pub mod Within

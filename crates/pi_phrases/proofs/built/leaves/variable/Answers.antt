@@ -1,5 +1,0 @@
-use Rattle.pi_phrases.proofs.TreeLemmas.{var-shown}
-use Rattle.pi_phrases.proofs.built.leaves.variable.Goals as goal
-
-pub returns : goal.returns
-returns c = var-shown _ _ c.in_ok-name.ensures.ok

@@ -1,4 +1,0 @@
-use Rattle.pi_phrases.proofs.items.Items.one.Goals as goal
-
-pub returns : goal.returns
-returns c = λ e h. c.in_ok-made.ensures e h

@@ -1,5 +1,0 @@
-use Rattle.pi_places.proofs.WholeLemmas.{HaveValuesBefore}
-use Rattle.pi_places.proofs.whole.have_values.Given as goal
-
-abbrev pub invariant-loop-k : goal.invariant-loop-k
-invariant-loop-k g l = HaveValuesBefore (g.P.Places.domains l.places) l.k

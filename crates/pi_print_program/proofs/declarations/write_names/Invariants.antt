@@ -1,0 +1,15 @@
+-- What is written, and what those that are left come to, are the whole.
+use Rattle.std.proofs.Common.{◌≡◌, ◌++◌, codes, drop}
+use Rattle.std.specs.Prelude.{map}
+use Rattle.std.specs.String.{string_bytes}
+use denote.Shadow.{shadow}
+use denote.Text.{Utf8}
+use Rattle.pi_print_program.specs.Texts.{parted, name_text}
+use Rattle.pi_print_program.proofs.PartedLemmas.{led}
+use Rattle.pi_print_program.proofs.declarations.write_names.Given as goal
+
+abbrev pub invariant-loop-name : goal.invariant-loop-name
+invariant-loop-name l = record {
+  text : shadow (Utf8 l.before);
+  written : string_bytes l.out ++ led l.before (codes ", ") (map name_text (drop l.name-index l.names)) ≡ string_bytes l.initial.out ++ parted (codes ", ") (map name_text l.names);
+}

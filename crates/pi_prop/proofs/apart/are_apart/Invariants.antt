@@ -1,5 +1,0 @@
-use Rattle.pi_prop.specs.Variables.{AreApartBelow}
-use Rattle.pi_prop.proofs.apart.are_apart.Given as goal
-
-abbrev pub invariant-loop-i : goal.invariant-loop-i
-invariant-loop-i l = AreApartBelow l.items l.i l.next

@@ -1,9 +1,0 @@
-use Rattle.std.proofs.Common.{◌≡◌, All, take}
-use Rattle.pi_prop.specs.Intervals.{ends_of, IsEnds}
-use Rattle.pi_prop.proofs.ends.all_ends.Given as goal
-
-abbrev pub invariant-loop-k : goal.invariant-loop-k
-invariant-loop-k g l = record {
-  all : l.ends.items ≡ ends_of (take l.k (g.P.Places.domains l.places));
-  ends : All IsEnds l.ends.items;
-}

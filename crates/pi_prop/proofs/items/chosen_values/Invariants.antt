@@ -1,5 +1,0 @@
-use Rattle.pi_prop.specs.Choices.{AreValues}
-use Rattle.pi_prop.proofs.items.chosen_values.Given as goal
-
-abbrev pub invariant-loop-i : goal.invariant-loop-i
-invariant-loop-i g l = AreValues l.count l.i (g.P.Places.domains l.places) l.spans.items

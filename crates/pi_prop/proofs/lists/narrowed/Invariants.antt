@@ -1,5 +1,0 @@
-use Rattle.std.proofs.Common.{◌≡◌, take}
-use Rattle.pi_prop.proofs.lists.narrowed.Given as goal
-
-abbrev pub invariant-loop-domain : goal.invariant-loop-domain
-invariant-loop-domain l = l.all.items ≡ take l.domain-index l.domains

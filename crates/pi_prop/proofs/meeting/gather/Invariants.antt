@@ -1,5 +1,0 @@
-use Rattle.pi_prop.specs.Variables.{AreGathered}
-use Rattle.pi_prop.proofs.meeting.gather.Given as goal
-
-abbrev pub invariant-loop-k : goal.invariant-loop-k
-invariant-loop-k g l = AreGathered l.k l.roots (g.P.Places.domains l.initial.places) (g.P.Places.domains l.places)

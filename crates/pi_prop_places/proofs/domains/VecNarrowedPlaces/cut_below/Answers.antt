@@ -1,0 +1,7 @@
+use Rattle.std.proofs.Common.{rules}
+use Rattle.std.specs.Prelude.{int_le}
+use Rattle.pi_prop_places.proofs.CutLemmas.{cut_past}
+use Rattle.pi_prop_places.proofs.domains.VecNarrowedPlaces.cut_below.Goals as goal
+
+pub returns-then-len-k : goal.returns-then-len-k
+returns-then-len-k c = cut_past c.args.self.now.items c.args.k (λ m. int_le c.args.n m) (search rules)

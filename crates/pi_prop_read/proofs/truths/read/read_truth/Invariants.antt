@@ -1,0 +1,15 @@
+use Rattle.std.specs.Prelude.{◌≤◌}
+use Rattle.pi_constraints.specs.State.{IsState, next}
+use Rattle.pi_prop_spec.specs.Steps.{Made}
+use Rattle.pi_prop_spec.specs.Truths.{read_truth}
+use Rattle.pi_prop_made.specs.Making.{Shows}
+use Rattle.pi_prop_read.specs.Refs.{IsThere}
+use Rattle.pi_prop_read.specs.TruthNodes.{boolean_at}
+use Rattle.pi_prop_read.specs.TruthFrames.{IsTurn}
+use Rattle.pi_prop_read.proofs.truths.read.read_truth.Given as goal
+
+-- the turn and what waits come to the whole
+abbrev pub invariant-loop : goal.invariant-loop
+invariant-loop g l =
+    let w = (g.S.StateStore.seen l.s).now in
+    (m : Made) → IsState w.state → IsThere w l.fn.term → Shows l.fn.making m → next w.state ≤ m.unused → IsTurn w l.making l.turn l.frames.items (read_truth (boolean_at w l.fn.term) m)

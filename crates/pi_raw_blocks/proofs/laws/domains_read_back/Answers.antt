@@ -1,8 +1,0 @@
-use Rattle.pi_raw_blocks.proofs.DomainLemmas.{back, are_domains}
-use Rattle.pi_raw_blocks.proofs.laws.domains_read_back.Goals as goal
-
-pub returns-clause-back : goal.returns-clause-back
-returns-clause-back c = back
-
-pub returns-clause-domains : goal.returns-clause-domains
-returns-clause-domains c = are_domains

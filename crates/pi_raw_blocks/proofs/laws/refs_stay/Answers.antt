@@ -1,5 +1,0 @@
-use Rattle.pi_raw_blocks.proofs.RefLemmas as lemmas
-use Rattle.pi_raw_blocks.proofs.laws.refs_stay.Goals as goal
-
-pub returns : goal.returns
-returns c = lemmas.refs_stay

@@ -1,5 +1,0 @@
-use Rattle.pi_raw_blocks.proofs.HeapLemmas as lemmas
-use Rattle.pi_raw_blocks.proofs.laws.trees_stay.Goals as goal
-
-pub returns : goal.returns
-returns c = lemmas.trees_stay

@@ -1,4 +1,0 @@
-use Rattle.pi_raw_store.proofs.heads.give_back.Goals as goal
-
-pub returns : goal.returns
-returns c = λ before a e. c.undo.ensures.restores before a e

@@ -1,0 +1,8 @@
+use Rattle.pi_rewrite_spec.specs.Ranges.{range_helper}
+use Rattle.pi_rewrite_loops.specs.Helpers.{loop_of, lowered, steps_by}
+use Rattle.pi_rewrite_loops.proofs.ClauseLemmas.{two-helpers}
+use Rattle.pi_rewrite_loops.proofs.iterators.push_steps.Goals as goal
+
+pub returns : goal.returns
+returns c p is =
+    two-helpers c.args.helpers.now.items c.push.new.self.items c.push-2.new.self.items c.in_ok-first.first c.in_ok-second.second (range_helper c.args.name.now (loop_of c.args.l.now)) (steps_by c.args.name.now (loop_of c.args.l.now) p (lowered c.args.turn.items c.args.slots.now)) c.in_ok-first.ensures (c.in_ok-second.ensures p is) c.in_ok-push.ensures.items c.in_ok-push-2.ensures.items

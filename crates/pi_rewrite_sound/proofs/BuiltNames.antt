@@ -1,0 +1,105 @@
+-- Names that may be called where goals and expressions are built: those of the tables, and others than what later stages give.
+use Rattle.std.proofs.Common.{◌≡◌, ℕ, Bool, true, false, cond, List, refl, sym, ◌∙◌, ap, subst}
+use Rattle.std.specs.Prelude.{◌==◌, ◌&&◌, ◌||◌, not, Option, Some, None, is_none, codes}
+use Rattle.std.specs.Str.{bytes_eq}
+use Rattle.std.proofs.lemmas.Bool.{and_parts, or_parts, eqb-true}
+use Rattle.pi_effects.specs.Rows.{has_line}
+use Rattle.pi_effects.specs.Integers.{integer_functions}
+use Rattle.pi_effects.specs.Collections.{collection_functions}
+use Rattle.pi_effects.specs.Sorting.{sorting_functions}
+use Rattle.pi_effects.specs.Indexing.{index_name, index_functions}
+use Rattle.pi_effects.specs.Ranges.{range_functions}
+use Rattle.pi_effects.specs.Naming.{naming_functions}
+use Rattle.pi_effects.specs.Texts.{text_functions}
+use Rattle.pi_effects.specs.Making.{making_functions}
+use Rattle.pi_effects.specs.BuiltIns.{reading_functions, is_function, is_predicate}
+use Rattle.pi_syntax.specs.Forms.{is_form}
+use Rattle.pi_syntax.specs.Names.{kind_of}
+use Rattle.pi_syntax.specs.declared.builtin.BuiltinKind.{BuiltinKind}
+use Rattle.pi_syntax.specs.declared.builtin.BuiltinKind.TheVariants.{Predicate, Function, Prelude}
+use Rattle.pi_meaning.specs.Shared.Names.{is_later_predicate, is_later_function}
+use Rattle.pi_meaning.specs.OverNames.Forms.{is_find_all, is_count_all, is_operand_node, is_sum, is_connective, is_constraint}
+use Rattle.pi_meaning.specs.OverNames.Kinds.{is_unwritten, means_function, means_predicate, means_prelude}
+use Rattle.pi_meaning.proofs.Shared.TableLemmas.{same-name}
+use Rattle.pi_meaning.proofs.OverNames.BuiltInNames.{names-have-their-kinds}
+use Rattle.pi_rewrite_sound.specs.Built.{is_own, is_prelude_kind, is_built_predicate, is_built_function}
+
+-- by which of two
+pub by-which : {C : Type 0} (x y : Bool) → (x || y) ≡ true → (x ≡ true → C) → (y ≡ true → C) → C
+by-which true y h f g = f refl
+by-which false y h f g = g h
+
+-- ---- names that the language doesn't give, and names of the prelude
+
+abbrev kind-by : Bool → Bool → Bool → Option BuiltinKind
+kind-by a b c = cond a (Some Function) (cond b (Some Predicate) (cond c (Some Prelude) None))
+
+none-of : (a b c : Bool) → kind-by a b c ≡ None → (a ≡ false) × (b ≡ false)
+none-of true b c h = absurd cc
+none-of false true c h = absurd cc
+none-of false false true h = absurd cc
+none-of false false false h = (refl, refl)
+
+no-predicate : (a b c : Bool) → is_prelude_kind (kind-by a b c) ≡ true → b ≡ false
+no-predicate true b c h = absurd cc
+no-predicate false true c h = absurd cc
+no-predicate false false c h = refl
+
+none-is : (o : Option BuiltinKind) → is_none o ≡ true → o ≡ None
+none-is None h = refl
+none-is (Some k) h = absurd cc
+
+own-kinds : (name : List ℕ) (k : ℕ) → is_own name k ≡ true → (means_function name k ≡ false) × (means_predicate name k ≡ false)
+own-kinds name k own =
+    let parts = and_parts (not (is_form name k)) (is_none (kind_of name k)) own in
+    none-of (means_function name k) (means_predicate name k) (means_prelude name k) (sym (names-have-their-kinds name k) ∙ none-is (kind_of name k) parts.1)
+
+not-later : (name : List ℕ) (k : ℕ) → means_predicate name k ≡ false → is_later_predicate name k ≡ false
+not-later name k h = (or_parts (is_later_predicate name k) _ (or_parts (is_predicate name k) _ h).1).0
+
+-- a predicate is of the tables, or no later stage gives it
+pub predicate-by : {C : Type 0} (name : List ℕ) (k : ℕ) → is_built_predicate name k ≡ true → (is_predicate name k ≡ true → C) → (is_later_predicate name k ≡ false → C) → C
+predicate-by name k built f g =
+    by-which (is_predicate name k) (is_own name k || is_prelude_kind (kind_of name k)) built f
+    (λ h. by-which (is_own name k) (is_prelude_kind (kind_of name k)) h
+    (λ own. g (not-later name k (own-kinds name k own).1))
+    (λ other. g (not-later name k (no-predicate (means_function name k) (means_predicate name k) (means_prelude name k) (sym (ap is_prelude_kind (names-have-their-kinds name k)) ∙ other)))))
+
+-- and so with functions
+pub function-by : {C : Type 0} (name : List ℕ) (k : ℕ) → is_built_function name k ≡ true → (is_function name k ≡ true → C) → (is_later_function name k ≡ false → C) → C
+function-by name k built f g =
+    by-which (is_function name k) (is_own name k) built f
+    (λ own. g (or_parts (is_later_function name k) _ (or_parts (is_function name k && not (is_unwritten name k)) _ (own-kinds name k own).0).1).0)
+
+-- ---- ranges and indexing
+
+pub ranges-built : (is_built_function (codes "..") 2 ≡ true) × (is_built_function (codes "..") 3 ≡ true)
+unfolding is_function has_line reading_functions making_functions integer_functions collection_functions sorting_functions index_functions range_functions naming_functions text_functions
+ranges-built = (refl, refl)
+
+pub index-built : is_built_function index_name 2 ≡ true
+unfolding is_function has_line reading_functions making_functions integer_functions collection_functions sorting_functions index_functions range_functions naming_functions text_functions
+index-built = refl
+
+-- ---- `find_all` and `count_all` are nodes of no operand
+
+apart : (t u : Bool) → (u ≡ true → t ≡ false) → t ≡ true → u ≡ false
+apart true true h is = absurd (let e : true ≡ false = h refl in cc)
+apart true false h is = refl
+apart false u h is = absurd cc
+
+-- of this spelling, with so many arguments
+spelled : (P : List ℕ → ℕ → Bool) (name spelling : List ℕ) (k j : ℕ) → (k == j && bytes_eq name spelling) ≡ true → P spelling j ≡ false → P name k ≡ false
+spelled P name spelling k j found h =
+    let parts = and_parts (k == j) (bytes_eq name spelling) found in
+    subst (λ (i : ℕ). P name i ≡ false) (sym (eqb-true k j parts.0)) (subst (λ (n : List ℕ). P n j ≡ false) (sym (same-name name spelling parts.1)) h)
+
+pub node-of_none : (name : List ℕ) (k : ℕ) → (is_operand_node name k || is_sum name k) ≡ true → (is_find_all name k ≡ false) × (is_count_all name k ≡ false)
+node-of_none name k node =
+    let P : List ℕ → ℕ → Bool = λ n j. is_operand_node n j || is_sum n j in
+    (apart (P name k) (is_find_all name k) (λ found. spelled P name (codes "find_all") k 2 found refl) node, apart (P name k) (is_count_all name k) (λ found. spelled P name (codes "count_all") k 1 found refl) node)
+
+pub sign-of_none : (name : List ℕ) (k : ℕ) → (is_connective name k || is_constraint name k) ≡ true → (is_find_all name k ≡ false) × (is_count_all name k ≡ false)
+sign-of_none name k sign =
+    let P : List ℕ → ℕ → Bool = λ n j. is_connective n j || is_constraint n j in
+    (apart (P name k) (is_find_all name k) (λ found. spelled P name (codes "find_all") k 2 found refl) sign, apart (P name k) (is_count_all name k) (λ found. spelled P name (codes "count_all") k 1 found refl) sign)

@@ -1,8 +1,0 @@
--- Where an expression stands, as code has it.
-use Rattle.pi_lowered.specs.Sites as sites
-use Rattle.pi_slots.specs.Indexed.{names_in}
-use Rattle.pi_sites.specs.OwnNames.{own_name}
-use Rattle.pi_sites.specs.declared.site.Site.{Site}
-
-abbrev pub site_of : Site → sites.Site
-site_of s = record { filled = s.filled; before = names_in s.before.items; helpers = s.helpers; called = own_name s.naming.now.prefix }

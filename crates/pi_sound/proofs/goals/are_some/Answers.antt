@@ -1,6 +1,0 @@
-use Rattle.std.proofs.Common.{◌∙◌, not, ap}
-use Rattle.pi_sound.proofs.BuiltCallLemmas.{some-listed}
-use Rattle.pi_sound.proofs.goals.are_some.Goals as goal
-
-pub returns : goal.returns
-returns c = ap not c.is_empty.ensures ∙ some-listed c.args.exps.now

@@ -1,5 +1,0 @@
-use Rattle.std.proofs.Common.{sym}
-use Rattle.pi_sound.proofs.names.is_predicate.Goals as goal
-
-pub returns-in-Some : goal.returns-in-Some
-returns-in-Some c = sym c.in-Some.ensures.some.known

@@ -1,0 +1,19 @@
+use Rattle.std.proofs.Common.{◌≡◌, ◌+◌, ◌*◌, ◌∙◌, length, ap, arith}
+use Rattle.pi_region.specs.Image.{Image, pushed}
+use Rattle.pi_region.specs.declared.entry.Table.{Table}
+use Rattle.pi_region.proofs.BackLemmas.{through}
+use Rattle.pi_store_blocks.proofs.agents.table.add_agent.Goals as goal
+
+pub returns-in-Ok-clause-ok : goal.returns-in-Ok-clause-ok
+returns-in-Ok-clause-ok c =
+    let mid : Image = c.write_agent.new.words in
+    let end : c.in_ok-_end._end ≡ length mid.region = c.in_ok-_end.ensures.ok.end in
+    let long : c.len.result ≡ length mid.region = c.len.ensures.len in
+    let word : c.len.result * 2 + 1 ≡ 2 * c.in_ok-_end._end + 1 = omega arith in
+    record {
+      mid = mid;
+      end = c.in_ok-_end._end;
+      written = c.in_ok-_end.ensures.ok;
+      added = c.in-Ok.ensures.ok ∙ ap (pushed mid Table.Agents) word;
+      advances = through c.args.words.now mid c.push.new.self c.in_ok-_end.ensures.ok.advances c.in-Ok.ensures.advances;
+    }

@@ -1,5 +1,0 @@
-use Rattle.pi_trail.proofs.ChangeLemmas.{appended_advances}
-use Rattle.pi_trail.proofs.trailed.Trailed.append_three.Goals as goal
-
-pub returns-clause-advances : goal.returns-clause-advances
-returns-clause-advances c = rw (c.in_ok-push_three.ensures.ok, ← c.self.view_is) (appended_advances _ _ c.self.invariant)

@@ -1,6 +1,0 @@
-use Rattle.std.proofs.Common.{◌∙◌, ap, min}
-use Rattle.pi_trail.proofs.NotedLemmas.{ends_before}
-use Rattle.pi_trail.proofs.trailed.Trailed.end_before.Goals as goal
-
-pub returns : goal.returns
-returns c = λ j region end. ends_before j c.entry_at-entry.result c.args.end c.lesser.result (c.entry_at-entry.ensures j region end) end (c.lesser.ensures ∙ ap (min c.entry_at-entry.result.link) c.saturating_sub.ensures)

@@ -1,9 +1,0 @@
-use Rattle.std.proofs.Common.{◌≡◌}
-use Rattle.pi_trail.specs.Back.{back}
-use Rattle.pi_trail.proofs.trailed.Trailed.undo.Given as goal
-
-abbrev pub invariant-loop-self : goal.invariant-loop-self
-invariant-loop-self l = back l.len l.self ≡ back l.len l.initial.self
-
-abbrev pub decreases-loop-self : goal.decreases-loop-self
-decreases-loop-self l = l.self.trail

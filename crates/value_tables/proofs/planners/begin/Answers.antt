@@ -1,4 +1,0 @@
-use Rattle.value_tables.proofs.planners.begin.Goals as goal
-
-pub follow-requires-clause-idle : goal.follow-requires-clause-idle
-follow-requires-clause-idle c = c.in-Ok.ensures.begun.waits
