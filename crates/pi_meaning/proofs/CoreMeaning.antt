@@ -14,5 +14,5 @@ pub mod QuietCalls
 pub mod QuietGoals
 pub mod QuietRules
 pub mod RuleLemmas
-mod SlotLemmas
+pub mod SlotLemmas
 pub mod TablesKeep

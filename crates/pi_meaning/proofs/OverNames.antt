@@ -1,5 +1,5 @@
 -- Lemmas on the meaning over names.
-mod NameLemmas
+pub mod NameLemmas
 pub mod SmallLemmas
 pub mod SmallPrograms
 pub mod BuiltInNames
