@@ -7,8 +7,6 @@ pub mod ItemsBelow
 pub mod KeepsGoals
 pub mod KeepsRules
 pub mod MeaningLemmas
-pub mod NestGoals
-pub mod NestRules
 pub mod QueryLemmas
 pub mod QuietCalls
 pub mod QuietGoals

@@ -1,7 +1,5 @@
 -- Lemmas on the meaning over names.
 pub mod NameLemmas
-pub mod SmallLemmas
-pub mod SmallPrograms
 pub mod BuiltInNames
 pub mod GrowControl
 pub mod GrowLoops

@@ -1,8 +1,6 @@
 -- The meaning over names, of programs and goals as they are written.
 pub mod Environment
 pub mod Place
-pub mod Small
-pub mod Surface
 pub mod Telling
 pub mod WrittenRules
 pub mod Texts

@@ -7,7 +7,7 @@ use Rattle.pi_syntax.specs.ExpTree.{ExpTree, atom, call}
 use Rattle.pi_syntax.specs.ProgramTree.{WrittenClause, rule, function, fact, ProgramTree}
 use Rattle.pi_syntax.specs.Signature.{Signature, signature, exp_count}
 use Rattle.pi_syntax.specs.Tokens.{Token}
-use Rattle.pi_meaning.specs.OverNames.Small.{defined_by, heads, Defines}
+use Rattle.pi_meaning.specs.OverNames.WrittenRules.{defined_by, heads, Defines}
 use Rattle.pi_syntax.specs.Forms.{is_form}
 use Rattle.pi_syntax.specs.Names.{kind_of}
 use Rattle.pi_prog_clauses.specs.Calls.{Named}

@@ -78,9 +78,6 @@ continued-under given adds l m h (give t ∷ k) p q r =
 pub then-under : (given : Builtins) (adds : BuiltinsOnlyAdd given) (l m : Level) → LevelBelow l m → (k : List Frame) (t u : Trace Point) → Under t u → Under (then t (continued given l k)) (then u (continued given m k))
 then-under given adds l m h k t u r = by-then PointBelow PointBelow t u (continued given l k) (continued given m k) r (continued-under given adds l m h k)
 
-start-under : (l m : Level) → LevelBelow l m → (e : Places) (s : State) → PointBelow (point l e s) (point m e s)
-start-under l m h e s = same_but_level h e s
-
 run-under : (given : Builtins) (adds : BuiltinsOnlyAdd given) (l m : Level) → LevelBelow l m → (gs : GoalTrees) (e : Places) (s : State) (k : List Frame) → Under (run_from given l gs e s k) (run_from given m gs e s k)
 run-under given adds l m h gs e s k =
     then-under given adds l m h k (meaning_of_all given gs (point l e s)) (meaning_of_all given gs (point m e s))

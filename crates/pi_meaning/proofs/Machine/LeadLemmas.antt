@@ -1,5 +1,5 @@
 -- Lemmas on runs of the machine.
-use Rattle.std.proofs.Common.{◌≡◌, ◌≢◌, ℕ, suc, ◌+◌, ◌<◌, List, [], ◌∷◌, ◌++◌, refl, ap, sym, subst, ◌∙◌, arith}
+use Rattle.std.proofs.Common.{◌≡◌, ◌≢◌, ℕ, suc, ◌+◌, List, [], ◌∷◌, ◌++◌, refl, ap, sym, subst, ◌∙◌}
 use Rattle.std.specs.Prelude.{None, replicate}
 use Rattle.pi_constraints.specs.State.{empty_state}
 use Rattle.pi_core.specs.CoreTree.{PredTree, QueryTree}
@@ -21,7 +21,7 @@ use Rattle.pi_meaning.specs.Machine.Step.{silently, with_tick, quietly, answerin
 use Rattle.pi_meaning.specs.Machine.Shape.{IsBalanced, IsGood}
 use Rattle.pi_meaning.specs.Machine.Built.{AreOfRules}
 use Rattle.pi_meaning.specs.Machine.Laws.{Comes, GoesOnGood}
-use Rattle.pi_meaning.specs.Machine.Weight.{weight, GetsLighter}
+use Rattle.pi_meaning.specs.Machine.Weight.{GetsLighter}
 use Rattle.pi_meaning.specs.Machine.Leads.{Silent, Leads, IsAtTick, IsAtEnd}
 use Rattle.pi_meaning.proofs.Machine.RunLemmas.{goal-strict}
 use Rattle.pi_meaning.proofs.Machine.HigherLemmas.{remaining-below}
@@ -63,13 +63,6 @@ leads-on v preds names front back a b c h k = record {
       subst (λ t. Below t (r a (h.depth (k.depth d)))) (sym (emit-append front back (r c d)))
       (below-trans (emit front (emit back (r c d))) (emit front (r b (k.depth d))) (r a (h.depth (k.depth d)))
       (below-emit front (emit back (r c d)) (r b (k.depth d)) (k.below d)) (h.below (k.depth d)));
-}
-
-pub silent-leads : (v : View) (preds : List PredTree) (names : List NameSlot) (a b : Config) → ((d : ℕ) → remaining v preds names d a ≡ remaining v preds names d b) → Leads v preds names [] a b
-unfolding emit
-silent-leads v preds names a b h = record {
-  depth = λ d. d;
-  below = λ d. subst (λ t. Below t (remaining v preds names d a)) (h d) (below-refl (remaining v preds names d a));
 }
 
 pub tick-leads_on : (v : View) (preds : List PredTree) (names : List NameSlot) (a b : Config) →
@@ -141,9 +134,6 @@ tick-begins v preds names events before after h k = (
 )
 
 -- ---- steps, and runs that go on with one more
-
-pub silent-on : (v : View) (preds : List PredTree) (names : List NameSlot) (a b c : Config) → Silent v preds names a b → Silent v preds names b c → Silent v preds names a c
-silent-on v preds names a b c h k = record { same = λ d. h.same d ∙ k.same d; lighter = let x : weight preds b < weight preds a = h.lighter in let y : weight preds c < weight preds b = k.lighter in omega arith }
 
 pub step-silent : (v : View) (preds : List PredTree) (names : List NameSlot) (c after : Config) → AreOfRules preds → IsGood c → step v preds names c ≡ silently after → Silent v preds names c after
 step-silent v preds names c after sound good h = record {

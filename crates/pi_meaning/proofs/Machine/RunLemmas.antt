@@ -90,7 +90,3 @@ no-goal given l e s k = alt-done (continued given l k (point l e s))
 
 abbrev pub remains : Builtins → Level → Now → List Entry → Trace Point
 remains given l now es = around given l es (now_trace given l now) []
-
--- two traces that are one are so in a stack
-pub same-around : (given : Builtins) (l : Level) (es : List Entry) (outs : List (Trace Point)) (t u : Trace Point) → t ≡ u → around given l es t outs ≡ around given l es u outs
-same-around given l es outs t u h = ap (λ w. around given l es w outs) h

@@ -9,10 +9,6 @@ use Rattle.pi_meaning.specs.OverNames.Texts.{Names, is_among, is_blank, places, 
 
 -- ---- lists of names
 
-pub either-true : (a b : Bool) → a || b ≡ true → (a ≡ false → b ≡ true)
-either-true true b is other = absurd (true≢false other)
-either-true false b is other = is
-
 first-true : (a b : Bool) → a ≡ true → a || b ≡ true
 first-true true b is = refl
 first-true false b is = absurd (true≢false (sym is))

@@ -6,7 +6,7 @@ use Rattle.pi_terms.specs.Tree.{Trees}
 use Rattle.pi_constraints.specs.State.{State}
 use Rattle.pi_syntax.specs.Signature.{exp_count}
 use Rattle.pi_meaning.specs.Traces.Trace.{Trace, one, then}
-use Rattle.pi_meaning.proofs.Traces.TraceLemmas.{then-assoc}
+use Rattle.pi_meaning.proofs.Traces.TraceLemmas.{alt-done, then-assoc}
 use Rattle.pi_meaning.specs.Shared.Level.{Applied}
 use Rattle.pi_meaning.specs.OverNames.Environment.{Valued, ValuedAll}
 use Rattle.pi_meaning.specs.OverNames.Place.{Place}
@@ -16,7 +16,10 @@ use Rattle.pi_meaning.specs.OverNames.Control.{draining, applied_to, called_with
 use Rattle.pi_meaning.specs.OverNames.Forms.{Form, readings, Parts, call_goal}
 use Rattle.pi_meaning.specs.OverNames.Goals.{values_of, values_in, values_apart, goals_in, goal_of}
 use Rattle.pi_meaning.specs.OverNames.Laws.{ArgumentsGiven, CallsGoByValues, FunctionsGoByValues, GoalsAreCalls}
-use Rattle.pi_meaning.proofs.OverNames.SmallLemmas.{then-of_one}
+
+then-of_one : {A B : Type 0} (x : A) (f : A → Trace B) → then (one x) f ≡ f x
+unfolding then
+then-of_one x f = alt-done (f x)
 
 -- what follows arguments and tells no names goes by what they come to
 behind-given : {A B : Type 0} (t : Trace ValuedAll) (f : Trees → State → Trace A) (g : ValuedAll → A → B) (tells : B → A) → ((all : ValuedAll) (x : A) → tells (g all x) ≡ x) →

@@ -14,8 +14,10 @@ use Rattle.pi_meaning.specs.Shared.Builtin.{effect, function_effect}
 use Rattle.pi_meaning.specs.Shared.Given.{Setting, LaterOnlyAdds}
 use Rattle.pi_meaning.specs.Shared.Handling.{handled_in, handling}
 use Rattle.pi_meaning.specs.Shared.Calls.{built_in, given_later, predicate_given, predicate_called, function_given, function_called, Called, called_by, with_planner, is_known, known_called, call_goal, catch_called, again_called, term_called, called_at_level, called_below, first_called, unknown_name}
-use Rattle.pi_meaning.specs.CoreMeaning.Instances.{core_setting, predicate_or_call, no_later}
-use Rattle.pi_meaning.specs.CoreMeaning.Laws.{TabledOnlyAdds, WholeOnlyAdds}
+use Rattle.pi_meaning.specs.CoreMeaning.Instances.{tabled, core_setting, predicate_or_call, no_later}
+use Rattle.pi_meaning.specs.CoreMeaning.Builtins.{BuiltinsOnlyAdd}
+use Rattle.pi_meaning.specs.Shared.View.{View}
+use Rattle.pi_meaning.specs.CoreMeaning.Laws.{WholeOnlyAdds}
 use Rattle.pi_meaning.proofs.Traces.BelowLemmas.{below-refl, below-then, below-caught}
 use Rattle.pi_meaning.proofs.CoreMeaning.MeaningLemmas.{calls-below}
 
@@ -158,7 +160,7 @@ first-below set adds l m b (tree t ts) s = one-down-below set adds l m b t (each
 
 -- ---- built-ins
 
-pub tabled-adds : TabledOnlyAdds
+pub tabled-adds : (v : View) → BuiltinsOnlyAdd (tabled v)
 tabled-adds v = record {
   predicates = λ l m h name ts s. or-called-below (effect v name ts s) (effect v name ts s) (option-itself (effect v name ts s)) l m h name ts s;
   functions = λ l m h name ts s. or-applied-below (function_effect name ts s) l m h name ts s;

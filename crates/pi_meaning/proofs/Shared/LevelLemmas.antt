@@ -1,12 +1,11 @@
 -- Levels, the deeper above, are in order.
-use Rattle.std.proofs.Common.{◌≡◌, ℕ, zero, suc, ◌+◌, List, Option, Some, None, refl, subst, arith}
-use Rattle.pi_meaning.specs.CoreMeaning.Builtins.{Builtins, BuiltinsOnlyAdd}
+use Rattle.std.proofs.Common.{◌≡◌, ℕ, zero, suc, List, Option, Some, None, refl}
+use Rattle.pi_meaning.specs.CoreMeaning.Builtins.{Builtins}
 use Rattle.pi_core.specs.CoreTree.{PredTree}
 use Rattle.pi_meaning.specs.Shared.Level.{Level, lowest, over, lower, level_of, Calls, CallsBelow, LevelBelow, calls_at}
-use Rattle.pi_meaning.specs.CoreMeaning.Rules.{calls_of, quiet_level, level_at}
+use Rattle.pi_meaning.specs.CoreMeaning.Rules.{calls_of, quiet_level}
 use Rattle.pi_meaning.proofs.Traces.BelowLemmas.{below-refl, below-trans}
 use Rattle.pi_meaning.proofs.CoreMeaning.MeaningLemmas.{calls-below}
-use Rattle.pi_meaning.proofs.CoreMeaning.RuleLemmas.{level-below}
 
 pub calls-itself : (c : Calls) → CallsBelow c c
 calls-itself c = record { called = λ name ts s. below-refl (c.called name ts s); applied = λ name ts s. below-refl (c.applied name ts s); drained = λ s. below-refl (c.drained s) }
@@ -27,15 +26,6 @@ level-further (lowest c) m n a b = calls-further c (calls_at m) (calls_at n) a (
 level-further (over c l) (lowest d) n a b = absurd a
 level-further (over c l) (over d m) (lowest e) a b = absurd b
 level-further (over c l) (over d m) (over e n) a b = (calls-further c d e a.0 b.0, level-further l m n a.1 b.1)
-
--- the levels of all greater depths
-pub level-later : (b : Builtins) → BuiltinsOnlyAdd b → (preds : List PredTree) (depth more : ℕ) → LevelBelow (level_at b preds depth) (level_at b preds (depth + more))
-level-later b adds preds depth zero = subst (λ d. LevelBelow (level_at b preds depth) (level_at b preds d)) (omega arith) (level-itself (level_at b preds depth))
-level-later b adds preds depth (suc more) =
-    let near : ℕ = depth + more in
-    let last : suc near ≡ depth + suc more = omega arith in
-    subst (λ d. LevelBelow (level_at b preds depth) (level_at b preds d)) last
-    (level-further (level_at b preds depth) (level_at b preds near) (level_at b preds (suc near)) (level-later b adds preds depth more) (level-below b adds preds near))
 
 -- ---- where a Tick leads
 

@@ -18,9 +18,6 @@ use Rattle.pi_meaning.specs.Machine.NamedGoals.{slots_from}
 pub call-name : (name : List ℕ) (k : ℕ) → is_call name k ≡ true → name ≡ codes "call"
 call-name name k is = (bytes_eq-Decides name (codes "call")).0 (and_parts (nat_le 1 k && nat_le k 8) (bytes_eq name (codes "call")) is).1
 
-pub catch-name : (name : List ℕ) (k : ℕ) → is_catch name k ≡ true → name ≡ codes "catch"
-catch-name name k is = (bytes_eq-Decides name (codes "catch")).0 (and_parts (k == 3) (bytes_eq name (codes "catch")) is).1
-
 call-alone : (k : ℕ) → is_predicate (codes "call") k ≡ false
 unfolding is_predicate tests comparing_tests kind_tests writing_predicates other_predicates has_line
 call-alone k = refl

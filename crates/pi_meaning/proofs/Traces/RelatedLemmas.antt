@@ -33,13 +33,6 @@ by-refl R r (ans x t) = answer_by (r x) (by-refl R r t)
 pub by-same : {A : Type 0} (t : Trace A) → BelowBy Same t t
 by-same t = by-refl Same same t
 
--- a wider relation between the answers
-pub by-map : {A B : Type 0} (R S : A → B → Type 0) → ((x : A) (y : B) → R x y → S x y) → (t : Trace A) (u : Trace B) → BelowBy R t u → BelowBy S t u
-by-map R S g _ _ (deeper_by u) = deeper_by u
-by-map R S g _ _ (end_by e) = end_by e
-by-map R S g _ _ (note_by n {t = t} {u = u} a) = note_by n (by-map R S g t u a)
-by-map R S g _ _ (answer_by {x = x} {y = y} {t = t} {u = u} r a) = answer_by (g x y r) (by-map R S g t u a)
-
 pub by-one : {A B : Type 0} (R : A → B → Type 0) (x : A) (y : B) → R x y → BelowBy R (one x) (one y)
 by-one R x y r = answer_by r (end_by Done)
 

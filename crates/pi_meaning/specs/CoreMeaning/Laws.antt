@@ -2,7 +2,6 @@
 -- nothing but built-ins of the tables, that is its run with these alone.
 use Rattle.std.specs.Prelude.{◌≡◌, ℕ, suc, ◌+◌, true, false, List, ◌++◌, Option, Some, is_some, length, Contains}
 use Rattle.pi_terms.specs.Tree.{Trees, tree_count}
-use Rattle.pi_terms.specs.Places.{Places}
 use Rattle.pi_constraints.specs.State.{State, next, IsState, PlacesBelow}
 use Rattle.pi_core.specs.GoalTree.{GoalTree}
 use Rattle.pi_effects.specs.BuiltIns.{is_predicate}
@@ -25,10 +24,7 @@ use Rattle.pi_meaning.specs.CoreMeaning.Run.{Solution, query_trace, IsRunUnder}
 
 -- ---- more depth only adds
 
--- to calls by name, with the built-ins of the tables, and with all names of the language, where it does to what later stages give
-abbrev pub TabledOnlyAdds : Type 0
-TabledOnlyAdds = (v : View) → BuiltinsOnlyAdd (tabled v)
-
+-- to calls by name, with all names of the language, where it does to what later stages give
 abbrev pub WholeOnlyAdds : Type 0
 WholeOnlyAdds = (v : View) (later : Later) (preds : List PredTree) → LaterOnlyAdds later → BuiltinsOnlyAdd (whole v later preds)
 
@@ -71,25 +67,6 @@ abbrev pub DeeperRunsAreTheRun : Type 0
 DeeperRunsAreTheRun = (b : Builtins) → BuiltinsOnlyAdd b → (program : List PredTree) (q : QueryTree) (n : ℕ) (c : Cut Solution) (r : IsRunUnder b program q n c) (more : ℕ) →
     cut n (query_trace b program q (r.depth + more)) ≡ c
 
--- ---- with the built-ins of the tables, under every view
-
--- two places have the same slots and state, whatever their levels are
-abbrev pub SameButLevel : Point → Point → Type 0
-SameButLevel p q = (p.slots ≡ q.slots) × (p.state ≡ q.state)
-
--- Where Ticks stand between the calls of quiet predicates, a goal does no more where any number of quiet calls may nest
--- than where as many may nest as there are predicates. So that number is never felt.
-abbrev pub QuietCallsNestFreely : Type 0
-QuietCallsNestFreely = (v : View) (preds : List PredTree) → TicksBetween preds → (below : Option Level) (k : ℕ) (g : GoalTree) (e : Places) (s : State) →
-    BelowBy SameButLevel (meaning (tabled v) g (record { level = quiet_level (tabled v) preds below k; slots = e; state = s }))
-    (meaning (tabled v) g (record { level = quiet_level (tabled v) preds below (length preds); slots = e; state = s }))
-
--- Where no plan of the log holds a variable, each answer of a sound query is a state, and its slots hold terms of variables
--- that were made. (No goal reads the log here.)
-abbrev pub RunsKeepStates : Type 0
-RunsKeepStates = (v : View) (program : List PredTree) (q : QueryTree) → IsSoundQuery program q → PlansAreGround v → (depth : ℕ) (x : Solution) →
-    Contains (answers (query_trace (tabled v) program q depth)) x → IsState x.state × PlacesBelow (next x.state) x.slots
-
 -- ---- where no later stage is there, under every view. Under `query_view log` runs are those under a log (`IsRun`).
 
 -- Where Ticks stand between the calls of quiet predicates, there is a depth that reaches to each Tick of a query's trace: also where `call` goes on with terms that a run makes.
@@ -107,7 +84,7 @@ abbrev pub SoundQueriesRun : Type 0
 SoundQueriesRun = (v : View) (program : List PredTree) (q : QueryTree) → IsSoundQuery program q → (n : ℕ) →
     (c : Cut Solution) × IsRunUnder (whole v no_later (program ++ q.helpers)) program q n c
 
--- ---- both
+-- ---- all names of the language
 
 -- with all names of the language just those that it gives do something by themselves, each with its numbers of arguments
 abbrev pub WholeKnowsWhatIsGiven : Type 0
@@ -115,8 +92,16 @@ WholeKnowsWhatIsGiven = (v : View) (later : Later) (preds : List PredTree) (l : 
     (is_some ((whole v later preds).predicate l name ts s) ≡ is_given false name (tree_count ts))
     × (is_some ((whole v later preds).function l name ts s) ≡ is_given true name (tree_count ts))
 
+-- ---- the built-ins of the tables alone
+
 -- A query that calls nothing but the tables' built-ins and what its program defines does the same with these built-ins alone as with all names of the language, whatever the view
 -- is and whatever later stages give.
 abbrev pub TabledIsWhole : Type 0
 TabledIsWhole = (v : View) (later : Later) (program : List PredTree) (q : QueryTree) → QueryCallsAmong is_predicate program q → NamesAreFree (program ++ q.helpers) → (d : ℕ) →
     query_trace (whole v later (program ++ q.helpers)) program q d ≡ query_trace (tabled v) program q d
+
+-- Where no plan of the log holds a variable, each answer of a sound query is a state, and its slots hold terms of variables
+-- that were made. (No goal reads the log here.)
+abbrev pub RunsKeepStates : Type 0
+RunsKeepStates = (v : View) (program : List PredTree) (q : QueryTree) → IsSoundQuery program q → PlansAreGround v → (depth : ℕ) (x : Solution) →
+    Contains (answers (query_trace (tabled v) program q depth)) x → IsState x.state × PlacesBelow (next x.state) x.slots

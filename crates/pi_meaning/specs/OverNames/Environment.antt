@@ -1,13 +1,13 @@
 -- Environments: what the names of a clause or a goal stand for while it is run (A User's Guide to Picat, 'Variables'), and what
 -- expressions come to in one. A name that the environment lacks gets a new variable when its first occurrence is evaluated,
 -- from the left. Each `_` is a name of its own (own: it has an entry too, which is never looked up).
-use Rattle.std.specs.Prelude.{ℕ, cond, List, [], ◌∷◌, ◌++◌, Option, Some, None, option_and_then, codes}
+use Rattle.std.specs.Prelude.{ℕ, cond, List, [], ◌∷◌, ◌++◌, Option, Some, None, codes}
 use Rattle.std.specs.Str.{bytes_eq}
-use Rattle.pi_terms.specs.Tree.{Tree, Trees, no_trees, tree}
+use Rattle.pi_terms.specs.Tree.{Tree, Trees}
 use Rattle.pi_terms.specs.Order.{identical}
 use Rattle.pi_constraints.specs.Value.{Bindings, value}
-use Rattle.pi_constraints.specs.State.{State, next, with_new, followed}
-use Rattle.pi_syntax.specs.ExpTree.{ExpTree, ExpTrees, no_exps, exp}
+use Rattle.pi_constraints.specs.State.{State, next, with_new}
+use Rattle.pi_syntax.specs.ExpTree.{ExpTree}
 
 -- a name with what it stands for
 pub record Meant : Type 0 where
@@ -56,31 +56,9 @@ valued (ExpTree.int n) e s = record { tree = Tree.int n; names = e; state = s }
 valued (ExpTree.atom name) e s = record { tree = Tree.atom name; names = e; state = s }
 valued x e s = record { tree = Tree.atom []; names = e; state = s }
 
--- terms from the left
-unfoldable pub valued_all : ExpTrees → Environment → State → ValuedAll
-valued_all no_exps e s = record { trees = no_trees; names = e; state = s }
-valued_all (exp x xs) e s =
-    let first : Valued = valued x e s in
-    let rest : ValuedAll = valued_all xs first.names first.state in
-    record { trees = tree first.tree rest.trees; names = rest.names; state = rest.state }
-
 -- ---- matching
 
 -- A new name stands for the term as it is, with bound variables in it; one that is there takes a term of the same value.
 abbrev pub name_matched : Bindings → Option Tree → List ℕ → Tree → Environment → Option Environment
 name_matched b (Some u) name t e = cond (identical (value b u) (value b t)) (Some e) None
 name_matched b None name t e = Some (with_name e name t)
-
--- the environment after an argument of a head is matched against a term, whose variables it never binds
-abbrev pub argument_matched : Bindings → ExpTree → Tree → Environment → Option Environment
-argument_matched b (ExpTree.var name) t e = name_matched b (known name e) name t e
-argument_matched b (ExpTree.int n) t e = cond (identical (Tree.int n) (followed b t)) (Some e) None
-argument_matched b (ExpTree.atom name) t e = cond (identical (Tree.atom name) (followed b t)) (Some e) None
-argument_matched b x t e = None
-
--- arguments from the left, each against its term
-unfoldable pub head_matched : Bindings → ExpTrees → Trees → Environment → Option Environment
-head_matched b no_exps no_trees e = Some e
-head_matched b no_exps (tree t ts) e = None
-head_matched b (exp x xs) no_trees e = None
-head_matched b (exp x xs) (tree t ts) e = option_and_then (head_matched b xs ts) (argument_matched b x t e)

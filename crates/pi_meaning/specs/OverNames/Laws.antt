@@ -2,7 +2,7 @@
 use Rattle.std.specs.Prelude.{◌≡◌, ℕ, ◌||◌, Bool, false, List, [], ◌∷◌, filter, None, is_some}
 use Rattle.std.specs.Char.{encode_utf8}
 use Rattle.std.specs.Str.{chars}
-use Rattle.pi_terms.specs.Tree.{Tree, Trees, tree_count}
+use Rattle.pi_terms.specs.Tree.{Tree, Trees}
 use Rattle.pi_constraints.specs.Value.{Bindings}
 use Rattle.pi_constraints.specs.State.{State}
 use Rattle.pi_syntax.specs.ExpTree.{ExpTree, atom, str, list, call, ExpTrees, no_exps, exp}
@@ -12,13 +12,12 @@ use Rattle.pi_effects.specs.BuiltIns.{is_predicate}
 use Rattle.pi_meaning.specs.Traces.Trace.{Trace, one, then}
 use Rattle.pi_meaning.specs.Traces.Depth.{DepthOnlyAdds, Cut, CutWithoutDeep}
 use Rattle.pi_meaning.specs.Shared.View.{View}
-use Rattle.pi_meaning.specs.Shared.Level.{Level, Applied, calls_at}
+use Rattle.pi_meaning.specs.Shared.Level.{Level, Applied}
 use Rattle.pi_meaning.specs.Shared.Names.{is_later_predicate}
 use Rattle.pi_meaning.specs.Shared.Given.{Setting, LaterOnlyAdds}
 use Rattle.pi_meaning.specs.OverNames.Environment.{Environment, Valued}
-use Rattle.pi_meaning.specs.OverNames.Small.{heads, Defines, IsSmallProgram, IsSmallQuery}
 use Rattle.pi_meaning.specs.OverNames.Place.{Place}
-use Rattle.pi_meaning.specs.OverNames.Surface.{called_at, surface_from}
+use Rattle.pi_meaning.specs.OverNames.WrittenRules.{heads, Defines}
 use Rattle.pi_meaning.specs.OverNames.Telling.{Told}
 use Rattle.pi_syntax.specs.Names.{kind_of}
 use Rattle.pi_syntax.specs.Forms.{is_form}
@@ -29,9 +28,9 @@ use Rattle.pi_meaning.specs.OverNames.Control.{Values, draining, applied_to, cal
 use Rattle.pi_meaning.specs.OverNames.Forms.{form_of, readings}
 use Rattle.pi_meaning.specs.OverNames.Goals.{values_of, goal_of}
 use Rattle.pi_meaning.specs.OverNames.Kinds.{means_prelude}
-use Rattle.pi_meaning.specs.OverNames.Run.{program_level, names_from, names_trace, IsNamesRun}
+use Rattle.pi_meaning.specs.OverNames.Run.{names_trace, IsNamesRun}
 
--- ---- the small language
+-- ---- names
 
 -- a name with so many arguments is a form of control, is built in, or is a predicate of the prelude
 unfoldable pub is_taken : List ℕ → ℕ → Bool
@@ -44,16 +43,6 @@ HeadsAreFree program = (name : List ℕ) (k : ℕ) → Defines (heads program) n
 -- which are the names that the language builds in, and the forms that are no calls
 abbrev pub OtherNamesAreFree : Type 0
 OtherNamesAreFree = (name : List ℕ) (k : ℕ) → kind_of name k ≡ None → is_form name k ≡ false → is_taken name k ≡ false
-
--- On the small language, from each place, a goal over names does what it does by `Surface`, whatever the view is and whatever later stages give.
-abbrev pub SmallIsSurface : Type 0
-SmallIsSurface = (v : View) (later : LaterStages) (program : ProgramTree) (goal : ExpTree) → IsSmallProgram program → IsSmallQuery program goal → HeadsAreFree program → (d : ℕ) (p : Place) →
-    names_from v later program goal d p ≡ surface_from v program goal d p
-
--- and so does each call of a predicate of such a program
-abbrev pub SmallCallsAreSurface : Type 0
-SmallCallsAreSurface = (v : View) (later : LaterStages) (program : ProgramTree) → IsSmallProgram program → HeadsAreFree program → (d : ℕ) (name : List ℕ) (ts : Trees) (s : State) →
-    Defines (heads program) name (tree_count ts) → (calls_at (program_level v later program d)).called name ts s ≡ called_at v program d name ts s
 
 -- ---- depths and runs
 

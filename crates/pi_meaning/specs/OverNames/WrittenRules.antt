@@ -1,5 +1,5 @@
--- The rules of a program as it is written, and which are those of a predicate. (A User's Guide to Picat, 'Predicates and Functions'.)
-use Rattle.std.specs.Prelude.{ℕ, ◌==◌, ◌&&◌, Bool, false, List, filter_map, Option, Some, None}
+-- The rules of a program as it is written, which are those of a predicate, and of which predicates it has rules. (A User's Guide to Picat, 'Predicates and Functions'.)
+use Rattle.std.specs.Prelude.{ℕ, ◌==◌, ◌&&◌, Bool, false, List, map, filter_map, Option, Some, None, Contains}
 use Rattle.std.specs.Str.{bytes_eq}
 use Rattle.pi_syntax.specs.ExpTree.{ExpTree, ExpTrees, no_exps}
 use Rattle.pi_syntax.specs.ProgramTree.{RuleTree, WrittenClause, rule, function, fact, ProgramTree}
@@ -28,3 +28,18 @@ is_rule_of name k r = is_signature name k (signature r.head)
 abbrev pub head_arguments : ExpTree → ExpTrees
 head_arguments (ExpTree.call name es) = es
 head_arguments e = no_exps
+
+-- the predicate that a part has a rule of
+abbrev pub defined_by : Option WrittenClause → Option Signature
+defined_by None = None
+defined_by (Some (rule r)) = signature r.head
+defined_by (Some (function f)) = None
+defined_by (Some (fact head)) = None
+
+-- the predicates of a program, part by part
+abbrev pub heads : ProgramTree → List (Option Signature)
+heads program = map (λ p. defined_by p.clause) program
+
+-- a program with these heads has a rule of the predicate
+abbrev pub Defines : List (Option Signature) → List ℕ → ℕ → Type 0
+Defines defined name k = Contains defined (Some (record { name = name; arity = k }))

@@ -1,11 +1,9 @@
 //! Laws of the core meaning.
-ghost use Rattle.pi_meaning.specs.CoreMeaning.Laws.{TabledOnlyAdds, WholeOnlyAdds, WholeKnowsWhatIsGiven, TabledIsWhole, GoalsDoMore, LevelsAreOrdered, LevelsAscend, QuietCallsStayAbove, QuietCallsKeepTheDepth, QuietCallsNestFreely, QueriesDoMore, WholeTracesStay, RunIsOne, DeeperRunsAreTheRun, DepthReachesTicks, EachQueryRuns, SoundQueriesRun, RunsKeepStates};
+ghost use Rattle.pi_meaning.specs.CoreMeaning.Laws.{WholeOnlyAdds, WholeKnowsWhatIsGiven, TabledIsWhole, GoalsDoMore, LevelsAreOrdered, LevelsAscend, QuietCallsStayAbove, QuietCallsKeepTheDepth, QueriesDoMore, WholeTracesStay, RunIsOne, DeeperRunsAreTheRun, DepthReachesTicks, EachQueryRuns, SoundQueriesRun, RunsKeepStates};
 
-/// More depth only adds to calls by name, with the built-ins of the tables, and with all names of the language where it does to what later
-/// stages give.
+/// With all names of the language more depth only adds to calls by name, where it does to what later stages give.
 pub fn built_ins_only_add()
-    ensures tabled { TabledOnlyAdds }
-    ensures whole { WholeOnlyAdds }
+    ensures { WholeOnlyAdds }
 {}
 
 /// With all names of the language just those that it gives do something by themselves, which are those that a sound program may call
@@ -31,12 +29,6 @@ pub fn depths_add()
     ensures quiet { QuietCallsStayAbove }
     ensures quiet_depth { QuietCallsKeepTheDepth }
     ensures queries { QueriesDoMore }
-{}
-
-/// Where Ticks stand between the calls of quiet predicates, a goal does no more where any number of quiet calls may nest
-/// than where as many may nest as there are predicates.
-pub fn quiet_calls_nest_freely()
-    ensures { QuietCallsNestFreely }
 {}
 
 /// A query's trace is the same at each depth that reaches to its end, and its run before a Tick at each depth that reaches

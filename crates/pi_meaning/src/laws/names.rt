@@ -1,14 +1,7 @@
 //! Laws of the meaning over names.
 ghost use Rattle.pi_meaning.specs.OverNames.OtherNames.{OtherNamesChangeNothing};
 ghost use Rattle.pi_meaning.specs.OverNames.Kinds.{NamesHaveTheirKinds};
-ghost use Rattle.pi_meaning.specs.OverNames.Laws.{CallsGoByValues, ClausesCountAlone, FunctionsGoByValues, GoalsAreCalls, NamesDoMore, NamesRunsAreOne, NamesRunsReach, OtherNamesAreFree, SmallCallsAreSurface, SmallIsSurface, TextsMatchAsLists};
-
-/// On the small language, of variables, integers, atoms, `=`, `true`, `fail`, calls and conjunctions, the meaning over names is that of
-/// `Surface`, which the proofs of lowering go through: for a goal from each place, and for each call.
-pub fn small_is_surface()
-    ensures same { SmallIsSurface }
-    ensures calls { SmallCallsAreSurface }
-{}
+ghost use Rattle.pi_meaning.specs.OverNames.Laws.{CallsGoByValues, ClausesCountAlone, FunctionsGoByValues, GoalsAreCalls, NamesDoMore, NamesRunsAreOne, NamesRunsReach, OtherNamesAreFree, TextsMatchAsLists};
 
 /// Just the names that the language builds in mean something by themselves, each as what it means: a function, a predicate, or a
 /// predicate of the prelude. So a name that is neither built in nor a form is free for a program.
