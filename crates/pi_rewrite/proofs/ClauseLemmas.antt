@@ -22,7 +22,7 @@ use Rattle.pi_rewrite_spec.specs.Sites.{Site, behind_site}
 use Rattle.pi_rewrite_spec.specs.Written.{made, goal_of}
 use Rattle.pi_rewrite_spec.specs.Helpers.{goal_helpers}
 use Rattle.pi_rewrite_spec.specs.Programs.{Naming, option_goals, option_count, behind_option, rule_site, written_rule, function_site, value_site, written_function, query_site, core_query}
-use Rattle.pi_rewrite_spec.specs.Lowered.{head_slots, is_truth, as_guard, guard_of, lowered_fact}
+use Rattle.pi_rewrite_spec.specs.Clauses.{head_slots, is_truth, as_guard, guard_of, lowered_fact}
 use Rattle.pi_rewrite.specs.Built.{is_true_node}
 
 -- ---- conditions

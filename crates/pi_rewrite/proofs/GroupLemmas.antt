@@ -14,7 +14,7 @@ use Rattle.pi_syntax.specs.declared.program.Part.{Part}
 use Rattle.pi_core.specs.CoreTree.{PredTree, index_of, pred_tree}
 use Rattle.pi_core.specs.declared.core_program.CorePred.{CorePred}
 use Rattle.pi_meaning.specs.OverNames.Prelude.{prelude}
-use Rattle.pi_rewrite_spec.specs.Lowered.{Lowering, with_first, with_next, is_clause_of, grouped, grouped_all}
+use Rattle.pi_rewrite_spec.specs.Clauses.{Lowering, with_first, with_next, is_clause_of, grouped, grouped_all}
 use Rattle.pi_rewrite_spec.specs.Programs as programs
 use Rattle.pi_rewrite_spec.specs.Programs.{Naming, written_rule, written_function, clause_count, rule_helpers, function_helpers, clause_helpers, clauses_of, helpers_of, core_program}
 use Rattle.pi_rewrite.specs.Built.{lowered_behind}

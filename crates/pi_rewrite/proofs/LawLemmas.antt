@@ -5,8 +5,8 @@ use Rattle.pi_syntax.specs.ExpTree.{ExpTree}
 use Rattle.pi_syntax.specs.ProgramTree.{ProgramTree}
 use Rattle.pi_core.specs.CoreTree.{PredTree, QueryTree}
 use Rattle.pi_rewrite_spec.specs.Programs.{core_program, core_query}
-use Rattle.pi_rewrite_laws.specs.WithinLoops.{IsAsked}
-use Rattle.pi_rewrite_laws.proofs.TextLawLemmas.{programs-with-loops-are-kept, goals-with-loops-are-kept}
+use Rattle.pi_rewrite_laws.specs.Within.{IsAsked}
+use Rattle.pi_rewrite_laws.proofs.LawLemmas.{programs-are-kept, goals-are-kept}
 use Rattle.pi_rewrite_sound.specs.Built.{unbuilt_part, is_built_goal}
 use Rattle.pi_rewrite_sound.specs.Within.{IsWithin}
 use Rattle.pi_rewrite_sound.proofs.RunLemmas.{levels-are-the-same, goals-are-the-same}
@@ -23,12 +23,12 @@ use Rattle.pi_rewrite.proofs.QueryLemmas.{query-kept}
 -- with the names that code makes
 kept : (program : ProgramTree) → IsWithin program → unbuilt_part program ≡ None → IsLoweredProgram program (core_program (own_name (program_prefix program)) program)
 kept program within built =
-    program-kept programs-with-loops-are-kept levels-are-the-same programs-sound programs-closed programs-plain program within built (own_name (program_prefix program)) (program-names program)
+    program-kept programs-are-kept levels-are-the-same programs-sound programs-closed programs-plain program within built (own_name (program_prefix program)) (program-names program)
 
 kept-query : (program : ProgramTree) (goal : ExpTree) (preds : List PredTree) → IsWithin program → unbuilt_part program ≡ None → IsAsked program goal → is_built_goal goal ≡ true → IsLoweredProgram program preds →
     IsLowered program goal preds (core_query (own_name (query_prefix preds)) goal)
 kept-query program goal preds within built asked built_goal is =
-    query-kept goals-with-loops-are-kept goals-are-the-same queries-sound program goal preds within built asked built_goal is (own_name (query_prefix preds)) (query-names program preds is.defines) (query-new preds)
+    query-kept goals-are-kept goals-are-the-same queries-sound program goal preds within built asked built_goal is (own_name (query_prefix preds)) (query-names program preds is.defines) (query-new preds)
 
 pub lowered-program : (program : ProgramTree) (preds : List PredTree) → preds ≡ core_program (own_name (program_prefix program)) program → unbuilt_part program ≡ None → IsWithin program → IsLoweredProgram program preds
 lowered-program program preds is built within = subst (IsLoweredProgram program) (sym is) (kept program within built)

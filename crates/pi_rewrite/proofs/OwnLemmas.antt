@@ -23,10 +23,9 @@ use Rattle.pi_meaning.specs.OverNames.Prelude.{prelude}
 use Rattle.pi_meaning.specs.OverNames.Rules.{predicate_head, function_in, is_head_of, heads_named, functions_named}
 use Rattle.pi_meaning.specs.OverNames.Run.{is_some_head}
 use Rattle.pi_meaning.proofs.Shared.TableLemmas.{Test, same-name, one-of, lines-hold, signatures-hold, each-line, body-holds, each-below, each-signed}
-use Rattle.pi_rewrite_spec.specs.Lowered.{named_by}
+use Rattle.pi_rewrite_spec.specs.Clauses.{named_by}
 use Rattle.pi_rewrite_laws.specs.Within.{is_some_function}
-use Rattle.pi_rewrite_laws.specs.Laws.{DefinesTheSame}
-use Rattle.pi_rewrite_laws.specs.TextLaws.{AreNew}
+use Rattle.pi_rewrite_laws.specs.Laws.{DefinesTheSame, AreNew}
 use Rattle.pi_rewrite_laws.proofs.HeadLemmas.{text_by_order}
 use Rattle.pi_rewrite_sites.specs.OwnNames.{own_digits, own_name}
 use Rattle.pi_rewrite_sites.proofs.DigitLemmas.{names-apart}

@@ -13,9 +13,8 @@ use Rattle.pi_meaning.specs.OverNames.Stages.{LaterStages, no_stages}
 use Rattle.pi_meaning.specs.OverNames.Run.{program_level}
 use Rattle.pi_rewrite_spec.specs.Forms.{Knows}
 use Rattle.pi_rewrite_laws.specs.Levels.{SameCalls, SameLevels, GoesByCalls}
-use Rattle.pi_rewrite_laws.specs.Laws.{known_of}
+use Rattle.pi_rewrite_laws.specs.Laws.{known_of, KeepsMeaning, ProgramsAreKept}
 use Rattle.pi_rewrite_spec.specs.Programs.{Naming, core_program}
-use Rattle.pi_rewrite_laws.specs.TextLaws.{KeepsMeaning, ProgramsWithLoopsAreKept}
 use Rattle.pi_rewrite_laws.proofs.AlikeLemmas.{calls-same}
 use Rattle.pi_rewrite_laws.proofs.RootNames.{no-later-keeps}
 use Rattle.pi_rewrite_sound.specs.Built.{unbuilt_part}
@@ -47,7 +46,7 @@ calls-kept levels program built preds kept = record {
     at : (v : View) (d : ℕ) → SameCalls (known_of program) (calls_at (level_at (whole v no_later preds) preds d)) (calls_at (program_level v no_stages program d))
     at v d = calls-same (known_of program) (level_at (whole v no_later preds) preds d) (program_level v no_stages program d) (same v d)
 
-pub program-kept : ProgramsWithLoopsAreKept → LevelsAreTheSame → LoweredProgramsAreSound → LoweredProgramsAreClosed → LoweredProgramsArePlain → (program : ProgramTree) → IsWithin program → unbuilt_part program ≡ None →
+pub program-kept : ProgramsAreKept → LevelsAreTheSame → LoweredProgramsAreSound → LoweredProgramsAreClosed → LoweredProgramsArePlain → (program : ProgramTree) → IsWithin program → unbuilt_part program ≡ None →
     (called : Naming) → AreNames program called → IsLoweredProgram program (core_program called program)
 program-kept keeps levels sound closed plain program within built called names =
     let kept : KeepsMeaning program (core_program called program) = keeps program within.forms called names.own in

@@ -10,10 +10,9 @@ use Rattle.pi_meaning.specs.OverNames.Telling.{place_told, told_trace}
 use Rattle.pi_meaning.specs.OverNames.Stages.{LaterStages, no_stages}
 use Rattle.pi_meaning.specs.OverNames.Run.{answer_names, names_from}
 use Rattle.pi_rewrite_laws.specs.Laws as over_whole
-use Rattle.pi_rewrite_laws.specs.Laws.{known_of}
+use Rattle.pi_rewrite_laws.specs.Laws.{known_of, AreNew, GoalsAreKept}
 use Rattle.pi_rewrite_spec.specs.Programs.{Naming, core_query}
-use Rattle.pi_rewrite_laws.specs.WithinLoops.{IsAsked}
-use Rattle.pi_rewrite_laws.specs.TextLaws.{AreNew, GoalsWithLoopsAreKept}
+use Rattle.pi_rewrite_laws.specs.Within.{IsAsked}
 use Rattle.pi_rewrite_laws.proofs.RootNames.{no-later-keeps}
 use Rattle.pi_rewrite_sound.specs.Built.{unbuilt_part, is_built_goal}
 use Rattle.pi_rewrite_sound.specs.TermCalls.{Allows}
@@ -30,19 +29,19 @@ goals-allowed goals program goal built built_goal v later (inl none) d p = goals
 goals-allowed goals program goal built built_goal v later (inr is) d p = ap (λ (stages : LaterStages). names_from v stages program goal d p) (sym is)
 
 -- in whatever way a core program is known as one
-whole-means : GoalsWithLoopsAreKept → (program : ProgramTree) (goal : ExpTree) (preds : List PredTree) → IsWithin program → IsAsked program goal → IsCoreProgram program preds → (other : Naming) → AreNames program other →
+whole-means : GoalsAreKept → (program : ProgramTree) (goal : ExpTree) (preds : List PredTree) → IsWithin program → IsAsked program goal → IsCoreProgram program preds → (other : Naming) → AreNames program other →
     AreNew preds other → over_whole.MeansTheSame program goal preds (core_query other goal)
 whole-means keeps program goal preds within asked core other names new =
     subst (λ (ps : List PredTree). over_whole.MeansTheSame program goal ps (core_query other goal)) (sym core.is)
     (keeps program goal within.forms asked core.called core.names.own other names.own (subst (λ (ps : List PredTree). AreNew ps other) core.is new)).0
 
-query-means : GoalsWithLoopsAreKept → GoalsAreTheSame → (program : ProgramTree) (goal : ExpTree) (preds : List PredTree) → IsWithin program → unbuilt_part program ≡ None → IsAsked program goal → is_built_goal goal ≡ true →
+query-means : GoalsAreKept → GoalsAreTheSame → (program : ProgramTree) (goal : ExpTree) (preds : List PredTree) → IsWithin program → unbuilt_part program ≡ None → IsAsked program goal → is_built_goal goal ≡ true →
     IsCoreProgram program preds → (other : Naming) → AreNames program other → AreNew preds other → MeansTheSame program goal preds (core_query other goal)
 query-means keeps goals program goal preds within built asked built_goal core other names new v later allows d s =
     whole-means keeps program goal preds within asked core other names new v no_stages (goes-by-nothing (known_of program)) no-later-keeps d s
     ∙ ap (told_trace (place_told (answer_names goal))) (goals-allowed goals program goal built built_goal v later allows d (at_state beginning s))
 
-pub query-kept : GoalsWithLoopsAreKept → GoalsAreTheSame → LoweredQueriesAreSound → (program : ProgramTree) (goal : ExpTree) (preds : List PredTree) → IsWithin program → unbuilt_part program ≡ None →
+pub query-kept : GoalsAreKept → GoalsAreTheSame → LoweredQueriesAreSound → (program : ProgramTree) (goal : ExpTree) (preds : List PredTree) → IsWithin program → unbuilt_part program ≡ None →
     IsAsked program goal → is_built_goal goal ≡ true → IsLoweredProgram program preds → (other : Naming) → AreNames program other → AreNew preds other → IsLowered program goal preds (core_query other goal)
 query-kept keeps goals sound program goal preds within built asked built_goal kept other names new =
     let fits : QueryFits preds goal other = sound program goal preds kept.defines kept.sound kept.closed kept.free kept.plain asked built_goal other names new in

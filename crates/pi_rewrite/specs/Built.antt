@@ -7,7 +7,7 @@ use Rattle.pi_syntax.specs.ProgramTree.{WrittenClause, ProgramTree}
 use Rattle.pi_syntax.specs.Signature.{Signature, signature}
 use Rattle.pi_meaning.specs.OverNames.WrittenRules.{is_signature}
 use Rattle.pi_meaning.specs.OverNames.Prelude.{prelude}
-use Rattle.pi_rewrite_spec.specs.Lowered.{Lowering, named_by, same_kind, grouped, grouped_all}
+use Rattle.pi_rewrite_spec.specs.Clauses.{Lowering, named_by, same_kind, grouped, grouped_all}
 
 -- predicates of which the last one may go on, and the clauses behind them
 unfoldable pub lowered_behind : List PredTree → List Lowering → List PredTree

@@ -19,7 +19,7 @@ use Rattle.pi_meaning.specs.OverNames.Telling.{place_told, told_trace, told_cut}
 use Rattle.pi_meaning.specs.Shared.Told.{solution_told}
 use Rattle.pi_meaning.specs.OverNames.Stages.{LaterStages}
 use Rattle.pi_meaning.specs.OverNames.Run.{program_level, answer_names, names_from, IsNamesRun}
-use Rattle.pi_rewrite_laws.specs.WithinLoops.{IsAsked}
+use Rattle.pi_rewrite_laws.specs.Within.{IsAsked}
 use Rattle.pi_rewrite_laws.specs.Laws.{known_of, DefinesTheSame, query_from}
 use Rattle.pi_rewrite_spec.specs.Programs.{Naming, core_program}
 use Rattle.pi_rewrite_sound.specs.Built.{unbuilt_part, is_built_goal}

@@ -5,7 +5,7 @@ ghost use Rattle.pi_syntax.specs.ProgramTree.{rule_tree, function_tree};
 ghost use Rattle.pi_core.specs.CoreTree.{clause_tree, pattern_trees, pred_tree};
 ghost use Rattle.pi_meaning.specs.OverNames.WrittenRules.{head_arguments};
 ghost use Rattle.pi_meaning.specs.OverNames.Texts.{behind, places};
-ghost use Rattle.pi_rewrite_spec.specs.Lowered.{guard_of, lowered_fact};
+ghost use Rattle.pi_rewrite_spec.specs.Clauses.{guard_of, lowered_fact};
 ghost use Rattle.pi_rewrite_spec.specs.Programs.{behind_option, option_goals, option_helpers, written_rule, rule_helpers, written_function, function_helpers};
 ghost use Rattle.pi_rewrite_spec.specs.Values.{slot_patterns};
 ghost use Rattle.pi_rewrite_sites.specs.OwnNames.{own_name};

@@ -8,7 +8,7 @@ ghost use Rattle.pi_rewrite_spec.specs.Goals.{in_turn as turn_of};
 ghost use Rattle.pi_rewrite_spec.specs.Written.{goal_of};
 ghost use Rattle.pi_rewrite_spec.specs.Helpers.{goal_helpers};
 ghost use Rattle.pi_rewrite_spec.specs.Programs.{option_goals, option_helpers};
-ghost use Rattle.pi_rewrite_spec.specs.Lowered.{as_guard as guard_as, guard_of, is_truth as is_truth_tree};
+ghost use Rattle.pi_rewrite_spec.specs.Clauses.{as_guard as guard_as, guard_of, is_truth as is_truth_tree};
 ghost use Rattle.pi_rewrite_sites.specs.SiteOf.{site_of};
 ghost use Rattle.pi_rewrite.specs.Built.{is_true_node};
 

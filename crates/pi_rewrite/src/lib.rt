@@ -4,7 +4,7 @@
 ghost use Rattle.std.specs.Prelude.{◌≡◌, None, IfOk};
 ghost use Rattle.pi_core.specs.CoreTree.{program_tree, query_tree};
 ghost use Rattle.pi_syntax.specs.ProgramTree.{ProgramTree, source_tree, goal_source};
-ghost use Rattle.pi_rewrite_laws.specs.WithinLoops.{IsAsked};
+ghost use Rattle.pi_rewrite_laws.specs.Within.{IsAsked};
 ghost use Rattle.pi_rewrite_sound.specs.Built.{unbuilt_part, unbuilt_goal};
 ghost use Rattle.pi_rewrite_sound.specs.Within.{IsWithin};
 ghost use Rattle.pi_rewrite.specs.Laws.{IsLoweredProgram, IsLowered};

@@ -6,7 +6,7 @@ ghost use Rattle.pi_syntax.specs.ProgramTree as tree;
 ghost use Rattle.pi_syntax.specs.ProgramTree.{ProgramTree, part_tree, source_tree};
 ghost use Rattle.pi_syntax.specs.Signature.{signature as signature_of};
 ghost use Rattle.pi_core.specs.CoreTree.{clause_tree, pred_tree, index_of};
-ghost use Rattle.pi_rewrite_spec.specs.Lowered.{Lowering, named_by, with_first, with_next, is_clause_of};
+ghost use Rattle.pi_rewrite_spec.specs.Clauses.{Lowering, named_by, with_first, with_next, is_clause_of};
 ghost use Rattle.pi_rewrite_spec.specs.Programs.{written_clause, rule_helpers, function_helpers, clause_helpers, clauses_of, helpers_of, core_program};
 ghost use Rattle.pi_rewrite_sites.specs.OwnNames.{own_name};
 ghost use Rattle.pi_rewrite.specs.Built.{lowered_behind, is_clause_named, program_prefix};

@@ -44,9 +44,6 @@ roots-stay-itself s = record { compounds = λ t f ts is. is; atoms = λ t name i
 
 -- ---- slots that a pattern fills
 
-firm-held : (o : Option Tree) → IsSome o → Some (unwrap_or o (Tree.atom [])) ≡ o
-firm-held o is = sym (some-again o is)
-
 slots-split : (p j : ℕ) (slots all : Places) → ((k : ℕ) → held slots k ≡ held all (j + k)) → ((k : ℕ) → k < p → IsSome (held slots k)) → ((k : ℕ) → p ≤ k → held slots k ≡ None) → p ≤ length slots →
     slots ≡ map Some (values_from j p all) ++ replicate (length slots - p) None
 unfolding values_from

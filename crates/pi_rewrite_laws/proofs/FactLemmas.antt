@@ -28,7 +28,7 @@ use Rattle.pi_meaning.specs.OverNames.Rules.{facts_called}
 use Rattle.pi_rewrite_spec.specs.Slots.{SlotNames, slot_for, slots_for}
 use Rattle.pi_rewrite_spec.specs.Values.{exact_term, cells_onto, slot_pattern, slot_patterns}
 use Rattle.pi_rewrite_spec.specs.Forms.{IsPattern, ArePatterns}
-use Rattle.pi_rewrite_spec.specs.Lowered.{head_forms, head_slots, lowered_fact}
+use Rattle.pi_rewrite_spec.specs.Clauses.{head_forms, head_slots, lowered_fact}
 use Rattle.pi_rewrite_spec.proofs.FilledLemmas.{term_at, terms_at}
 use Rattle.pi_rewrite_spec.proofs.AgreeLemmas.{Room, free_room, grows-length, Agrees}
 use Rattle.pi_rewrite_spec.proofs.NewNameLemmas.{agrees-nothing}

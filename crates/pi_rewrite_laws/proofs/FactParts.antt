@@ -11,7 +11,7 @@ use Rattle.pi_core.specs.CoreTree.{ClauseTree, index_of}
 use Rattle.pi_meaning.specs.OverNames.WrittenRules.{is_signature, is_rule_of, rule_in, rules_of}
 use Rattle.pi_meaning.specs.OverNames.Rules.{predicate_head, fact_head, is_head_of, is_head_in, rules_named, facts_named, heads_named, modes_before, first_modes, modes_named}
 use Rattle.pi_meaning.specs.OverNames.Run.{is_some_head}
-use Rattle.pi_rewrite_spec.specs.Lowered.{lowered_fact, named_by, Lowering}
+use Rattle.pi_rewrite_spec.specs.Clauses.{lowered_fact, named_by, Lowering}
 use Rattle.pi_rewrite_laws.specs.Within.{declared_if, declared_before, BeginsWithModes}
 use Rattle.pi_rewrite_laws.proofs.FindLemmas.{matches, chosen, clauses, modes_in}
 

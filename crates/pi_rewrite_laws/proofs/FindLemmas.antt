@@ -12,10 +12,14 @@ use Rattle.pi_core.specs.CoreTree.{ClauseTree, PredTree, is_pred, find_pred}
 use Rattle.pi_syntax.specs.Signature.{Signature}
 use Rattle.pi_syntax.specs.declared.program.Mode.{Mode}
 use Rattle.pi_meaning.specs.OverNames.WrittenRules.{is_signature}
-use Rattle.pi_rewrite_spec.specs.Lowered.{Lowering, same_kind, is_clause_of, grouped, grouped_all}
+use Rattle.pi_rewrite_spec.specs.Clauses.{Lowering, same_kind, is_clause_of, grouped, grouped_all}
 use Rattle.pi_rewrite_laws.specs.Within.{Key, GoesOn, StandTogether}
-use Rattle.pi_rewrite_laws.specs.Clauses.{pred_with}
 use Rattle.pi_rewrite_laws.proofs.HeadLemmas.{text_by_order}
+
+-- a predicate or function of these clauses, where there are some, behind these mode lists
+abbrev pub pred_with : Bool → List ℕ → ℕ → Option (List (List Mode)) → List ClauseTree → Option PredTree
+pred_with function name k modes [] = None
+pred_with function name k modes (c ∷ cs) = Some (record { name = name; arity = k; function = function; quiet = false; index = modes; clauses = c ∷ cs })
 
 -- ---- which clauses are of what
 

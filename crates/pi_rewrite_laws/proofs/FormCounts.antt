@@ -27,15 +27,6 @@ is-once false false false false true f is = absurd cc
 is-once false false false false false true is = absurd cc
 is-once false false false false false false is = absurd cc
 
-is-assignment : (a b c d e f : Bool) → first_form a b c d e f ≡ Some assignment → c ≡ true
-is-assignment true b c d e f is = absurd cc
-is-assignment false true c d e f is = absurd cc
-is-assignment false false true d e f is = refl
-is-assignment false false false true e f is = absurd cc
-is-assignment false false false false true f is = absurd cc
-is-assignment false false false false false true is = absurd cc
-is-assignment false false false false false false is = absurd cc
-
 is-catching : (a b c d e f : Bool) → first_form a b c d e f ≡ Some catch → d ≡ true
 is-catching true b c d e f is = absurd cc
 is-catching false true c d e f is = absurd cc
@@ -52,10 +43,6 @@ negates-one name k is = (and_parts (k == 1) (bytes_eq name (codes "not")) (is-ne
 pub takes-one : (name : List ℕ) (k : ℕ) → form_of name k ≡ Some once → (k == 1) ≡ true
 unfolding form_of
 takes-one name k is = (and_parts (k == 1) (bytes_eq name (codes "once")) (is-once (k == 1 && bytes_eq name (codes "not")) (k == 1 && bytes_eq name (codes "once")) (k == 2 && bytes_eq name (codes ":=")) (is_catch name k) (is_call name k) (k == 2 && bytes_eq name (codes "in")) is)).0
-
-pub assigns-two : (name : List ℕ) (k : ℕ) → form_of name k ≡ Some assignment → (k == 2) ≡ true
-unfolding form_of
-assigns-two name k is = (and_parts (k == 2) (bytes_eq name (codes ":=")) (is-assignment (k == 1 && bytes_eq name (codes "not")) (k == 1 && bytes_eq name (codes "once")) (k == 2 && bytes_eq name (codes ":=")) (is_catch name k) (is_call name k) (k == 2 && bytes_eq name (codes "in")) is)).0
 
 pub catches-three : (name : List ℕ) (k : ℕ) → form_of name k ≡ Some catch → is_catch name k ≡ true
 unfolding form_of

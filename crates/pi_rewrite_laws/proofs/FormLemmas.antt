@@ -1,11 +1,10 @@
 -- Expressions and calls by what they are made of: by themselves, as arguments, by their forms.
-use Rattle.std.proofs.Common.{◌≡◌, ℕ, suc, Bool, true, false, cond, List, [], ◌∷◌, length, refl, sym, ◌∙◌, ap, subst}
+use Rattle.std.proofs.Common.{◌≡◌, ℕ, Bool, true, false, cond, List, [], ◌∷◌, length, refl, sym, ◌∙◌, ap, subst}
 use Rattle.std.specs.Prelude.{Option, Some, None, ◌||◌, IsTrue}
 use Rattle.std.proofs.lemmas.Bool.{false≢true}
 use Rattle.pi_terms.specs.Tree.{trees_of, tree_count}
 use Rattle.pi_effects.specs.Indexing.{index_name}
 use Rattle.pi_syntax.specs.ExpTree.{ExpTree, ExpTrees, no_exps, exp}
-use Rattle.pi_syntax.specs.Signature.{exp_count}
 use Rattle.pi_core.specs.GoalTree.{GoalTree}
 use Rattle.pi_meaning.specs.Traces.Trace.{done, one}
 use Rattle.pi_meaning.specs.Shared.Level.{Level}
@@ -14,21 +13,20 @@ use Rattle.pi_meaning.specs.Shared.Given.{Setting}
 use Rattle.pi_meaning.specs.Shared.Names.{is_catch, is_call, is_given_function}
 use Rattle.pi_meaning.specs.OverNames.Texts.{Names, places, behind}
 use Rattle.pi_meaning.specs.OverNames.Terms.{written_terms}
-use Rattle.pi_meaning.specs.OverNames.Control.{Goal, Value, Values, nothing, in_front, applied_to, all_found, all_counted, called_with, calling_term, goal_at, value_at}
+use Rattle.pi_meaning.specs.OverNames.Control.{Goal, Value, Values, nothing, in_front, applied_to, called_with, calling_term, goal_at, value_at}
 use Rattle.pi_meaning.specs.OverNames.Forms.{Form, negation, once, assignment, catch, by_term, membership, form_of, Reading, plain, readings, call_goal, indexed_by}
 use Rattle.pi_meaning.specs.OverNames.Goals.{value_of, values_of}
 use Rattle.pi_rewrite_spec.specs.Slots.{SlotNames}
 use Rattle.pi_rewrite_spec.specs.Values.{SlotValue, SlotValues, slot_term, slot_terms, is_flat, are_flat, as_it_stands, last_value, value_before, value_by, filled_before, no_values, before_values, applied}
 use Rattle.pi_rewrite_spec.specs.Goals as slots
-use Rattle.pi_rewrite_spec.specs.Goals.{SlotGoals, SlotParts, made, parts, arguments}
-use Rattle.pi_rewrite_spec.specs.Forms.{Knows, IsTerm, AreTerms, IsFunctionCall, IsPredicateCall, IsAtomGoal, IsExpression, AreExpressions}
+use Rattle.pi_rewrite_spec.specs.Goals.{SlotGoals, SlotParts}
+use Rattle.pi_rewrite_spec.specs.Forms.{Knows, IsTerm, AreTerms, IsPredicateCall, IsAtomGoal}
 use Rattle.pi_rewrite_spec.proofs.RunLemmas.{Alike, SameGoals, SameLast, SameFilled, SameArguments, filled-last}
 use Rattle.pi_rewrite_spec.proofs.ControlLemmas.{true-goals, fail-goals, denied-goals, once-goals, caught-goals}
 use Rattle.pi_rewrite_spec.proofs.BuiltInLemmas.{item-given}
-use Rattle.pi_rewrite_spec.proofs.FlatLemmas.{both, flat-term, flat-terms, flat-values}
+use Rattle.pi_rewrite_spec.proofs.FlatLemmas.{both, flat-values}
 use Rattle.pi_rewrite_spec.proofs.TouchLemmas.{flat-last, flat-filled}
 use Rattle.pi_rewrite_laws.proofs.ValueLemmas.{called-goals, terms-goals, applied-value, no-arguments, front-arguments, flat_values, last-arguments}
-use Rattle.pi_rewrite_laws.proofs.FoundLemmas.{found-value, counted-value}
 use Rattle.pi_rewrite_laws.proofs.AssignLemmas.{assigned-goals}
 
 -- ---- an expression by itself, of what it comes to where it has a call
@@ -56,14 +54,6 @@ last-value known set b l m h before e is mk other = go (is_flat e) refl
         subst (λ (test : Bool). SameLast b l m h (value_of set plain before e) (λ ns. cond test (as_it_stands (slot_term e ns)) (mk ns))) (sym flat)
         (filled-last b l m h (value_of set plain before e) mk (other flat))
 
-pub value-before : (known : Knows) (set : Setting) (b : Builtins) (l m : Level) (h : ℕ) → Alike known set b l m → (before : Names) (e : ExpTree) → IsExpression known e →
-    (is_flat e ≡ false → SameFilled b l m h (value_of set plain before e) (made h e)) → SameFilled b l m h (value_of set plain before e) (λ ns. value_before h e ns (made h e ns))
-value-before known set b l m h alike before e is other = before-value known set b l m h alike before e (λ flat. flat-term known e flat is) (made h e) other
-
-pub value-last : (known : Knows) (set : Setting) (b : Builtins) (l m : Level) (h : ℕ) (before : Names) (e : ExpTree) → IsExpression known e →
-    (is_flat e ≡ false → SameFilled b l m h (value_of set plain before e) (made h e)) → SameLast b l m h (value_of set plain before e) (λ ns. last_value e ns (made h e ns))
-value-last known set b l m h before e is other = last-value known set b l m h before e (λ flat. flat-term known e flat is) (made h e) other
-
 -- ---- arguments
 
 -- those without a call, of which one stands first
@@ -76,11 +66,6 @@ first-flat h e es flat mk args rest ns =
   where
     first : is_flat e ≡ true → are_flat es ≡ true → value_by (are_flat es) h e ns (mk ns) ≡ as_it_stands (slot_term e ns)
     first one all = ap (λ (c : Bool). value_by c h e ns (mk ns)) all ∙ ap (λ (c : Bool). cond c (as_it_stands (slot_term e ns)) (mk ns)) one
-
-flat-arguments : (h : ℕ) (es : ExpTrees) → are_flat es ≡ true → (ns : SlotNames) → arguments h es ns ≡ flat_values (slot_terms es ns)
-unfolding arguments are_flat slot_terms
-flat-arguments h no_exps flat ns = refl
-flat-arguments h (exp e es) flat ns = first-flat h e es flat (made h e) (arguments h es) (λ ms. flat-arguments h es (both (is_flat e) (are_flat es) flat).1 ms) ns
 
 pub first-arguments : (known : Knows) (set : Setting) (b : Builtins) (l m : Level) (h : ℕ) → Alike known set b l m → (before : Names) (e : ExpTree) (es : ExpTrees) → (is_flat e ≡ true → IsTerm e) → (are_flat es ≡ true → AreTerms es) →
     (mk : SlotNames → SlotValue) (args : SlotNames → SlotValues) → (are_flat es ≡ true → (ms : SlotNames) → args ms ≡ flat_values (slot_terms es ms)) →
@@ -103,18 +88,6 @@ first-arguments known set b l m h alike before e es is are mk args flats other r
         subst (λ (test : Bool). SameArguments b l m h (in_front (value_of set plain before e) vs) (λ ns. before_values (value_by test h e ns (mk ns)) (args (value_by test h e ns (mk ns)).names))) (sym flat)
         (front-arguments b l m h (value_of set plain before e) vs (λ ns. value_before h e ns (mk ns)) args (before-value known set b l m h alike before e is mk other) rest)
 
-pub arguments-first : (known : Knows) (set : Setting) (b : Builtins) (l m : Level) (h : ℕ) → Alike known set b l m → (before : Names) (e : ExpTree) (es : ExpTrees) → IsExpression known e → AreExpressions known es →
-    (is_flat e ≡ false → SameFilled b l m h (value_of set plain before e) (made h e)) → SameArguments b l m h (values_of set [] (behind before (places e)) es) (arguments h es) →
-    SameArguments b l m h (in_front (value_of set plain before e) (values_of set [] (behind before (places e)) es)) (arguments h (exp e es))
-unfolding arguments
-arguments-first known set b l m h alike before e es is are other rest = first-arguments known set b l m h alike before e es (λ flat. flat-term known e flat is) (λ flat. flat-terms known es flat are) (made h e) (arguments h es) (flat-arguments h es) other rest
-
--- how many they are
-pub arguments-count : (h : ℕ) (es : ExpTrees) (ns : SlotNames) → tree_count (trees_of (arguments h es ns).trees) ≡ exp_count es
-unfolding arguments exp_count tree_count
-arguments-count h no_exps ns = refl
-arguments-count h (exp e es) ns = ap suc (arguments-count h es (value_by (are_flat es) h e ns (made h e ns)).names)
-
 -- arguments that stand in no list: a function's that is written otherwise
 pub other-arguments : (known : Knows) (set : Setting) (b : Builtins) (l m : Level) (h : ℕ) (name : List ℕ) (k : ℕ) (vs : Values) (lvs : SlotNames → SlotValues) → Alike known set b l m → SameArguments b l m h vs lvs →
     ((ns : SlotNames) → tree_count (trees_of (lvs ns).trees) ≡ k) → IsTrue (is_given_function name k) → SameFilled b l m h (applied_to set name vs) (λ ns. applied name (lvs ns))
@@ -130,18 +103,6 @@ other-arguments known set b l m h name k vs lvs alike are count is = applied-val
 pub record SameCallParts (b : Builtins) (l m : Level) (h : ℕ) (goal value : ℕ → Type 0) (gs : List Goal) (vs : List Value) (lgs : List (SlotNames → SlotGoals)) (lvs : List (SlotNames → SlotValue)) : Type 0 where
   pub goals : (i : ℕ) → goal i → SameGoals b l m h (goal_at gs i) (slots.goals_at lgs i)
   pub values : (i : ℕ) → value i → SameLast b l m h (value_at vs i) (slots.value_at lvs i)
-
-pub call-value : (known : Knows) (set : Setting) (b : Builtins) (l m : Level) (h : ℕ) → Alike known set b l m → (find count : Bool) (name : List ℕ) (k : ℕ) (exps : Type 0) (value goal : ℕ → Type 0) → IsFunctionCall known find count name k exps value goal →
-    (gs : List Goal) (late : List Value) (all : Values) (lgs : List (SlotNames → SlotGoals)) (lvs : List (SlotNames → SlotValue)) (lall : SlotNames → SlotValues) → SameCallParts b l m h goal value gs late lgs lvs →
-    (exps → SameArguments b l m h all lall) → ((ns : SlotNames) → tree_count (trees_of (lall ns).trees) ≡ k) →
-    SameFilled b l m h (cond find (all_found (value_at late 0) (goal_at gs 1)) (cond count (all_counted (goal_at gs 0)) (applied_to set name all)))
-    (λ ns. cond find (slots.found_by (slots.goals_at lgs 1 ns) (slots.value_at lvs 0)) (cond count (slots.all_counted (slots.goals_at lgs 0 ns)) (applied name (lall ns))))
-call-value known set b l m h alike true count name k exps value goal is gs late all lgs lvs lall same args long =
-    found-value known set b l m h (goal_at gs 1) (value_at late 0) (slots.goals_at lgs 1) (slots.value_at lvs 0) alike (same.goals 1 is.1) (same.values 0 is.0)
-call-value known set b l m h alike false true name k exps value goal is gs late all lgs lvs lall same args long =
-    counted-value known set b l m h (goal_at gs 0) (slots.goals_at lgs 0) alike (same.goals 0 is)
-call-value known set b l m h alike false false name k exps value goal is gs late all lgs lvs lall same args long =
-    applied-value known set b l m h name k all lall alike (args is.0) long is.1
 
 -- which form a call is says whether it is one of a term
 form-none : (a b c d e f : Bool) →

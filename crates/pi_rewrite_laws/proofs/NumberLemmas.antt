@@ -2,14 +2,10 @@
 use Rattle.std.proofs.Common.{◌≡◌, ℕ, suc, ◌≤◌, Bool, true, false, refl, sym, ◌∙◌, ap, arith, nat_lt}
 use Rattle.std.specs.Prelude.{ℤ, ◌^◌, pos, int_lt, if◌then◌else◌, Ok, Err}
 use Rattle.std.proofs.lemmas.Bool.Decides.{Decides-ltb}
-use Rattle.pi_effects.specs.Range.{has_128_bits, bounded}
+use Rattle.pi_effects.specs.Range.{bounded}
 use Rattle.pi_effects.specs.Value.{value_of}
 use Rattle.pi_effects.specs.declared.arith_fault.ArithFault.TheVariants.{Overflow}
 use Rattle.pi_effects.specs.declared.operation.Op.TheVariants.{Add}
-
--- a natural number has 128 bits where it is small enough
-natural-bits : (k : ℕ) → has_128_bits (pos k) ≡ nat_lt k (2 ^ 127)
-natural-bits k = refl
 
 pub less-natural : (a b : ℕ) → int_lt (pos a) (pos b) ≡ nat_lt a b
 less-natural a b = refl

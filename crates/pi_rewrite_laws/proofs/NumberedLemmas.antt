@@ -12,8 +12,7 @@ use Rattle.pi_meaning.specs.OverNames.Forms.{Form, negation, once, assignment, c
 use Rattle.pi_rewrite_spec.specs.Slots.{SlotNames}
 use Rattle.pi_rewrite_spec.specs.Values.{last_value}
 use Rattle.pi_rewrite_spec.specs.Goals.{SlotGoals}
-use Rattle.pi_rewrite_spec.specs.Forms.{Knows, IsPattern, ArePatterns, IsFunctionCall, IsPredicateCall}
-use Rattle.pi_rewrite_laws.specs.WithLoops.{IsUnit, IsAssigned, IsExpression, AreExpressions, IsExpressionAt, IsGoalAt, IsGoal, AreGoals, AreBranches, IsBranch, HaveGoals, AreUnits, IsCollection}
+use Rattle.pi_rewrite_spec.specs.Forms.{Knows, IsPattern, ArePatterns, IsFunctionCall, IsPredicateCall, IsUnit, IsAssigned, IsExpression, AreExpressions, IsExpressionAt, IsGoalAt, IsGoal, AreGoals, AreBranches, IsBranch, HaveGoals, AreUnits, IsCollection}
 use Rattle.pi_rewrite_spec.specs.Sites.{Site, iterator_helpers, helpers_in, helpers_in_all, helpers_in_branches, helpers_in_units, behind_site, behind_exp, goal_sites, value_sites, following_sites}
 use Rattle.pi_rewrite_spec.specs.Loops.{Ending, as_it_is, in_order, Loop, while_helper, do_helper, only_turn_helper}
 use Rattle.pi_rewrite_spec.specs.Comprehensions.{adding}

@@ -22,7 +22,7 @@ use Rattle.pi_meaning.specs.Shared.Calls.{given_later, predicate_given, first_ca
 use Rattle.pi_meaning.specs.Shared.Names.{is_later_predicate, is_call, is_given_predicate}
 use Rattle.pi_meaning.specs.CoreMeaning.Instances.{is_called_by_name, core_setting, whole}
 use Rattle.pi_rewrite_spec.specs.Programs.{Naming}
-use Rattle.pi_rewrite_laws.specs.WithinLoops.{AreQuiet}
+use Rattle.pi_rewrite_laws.specs.Within.{AreQuiet}
 use Rattle.pi_rewrite_laws.proofs.HeadLemmas.{text_by_order}
 use Rattle.pi_rewrite_laws.proofs.TurnLevels.{HasHelper}
 use Rattle.pi_rewrite_laws.proofs.NumberedLemmas.{IsHelper, NamedFrom}

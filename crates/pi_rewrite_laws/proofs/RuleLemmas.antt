@@ -1,6 +1,6 @@
 -- Rules and functions over names do what their clauses do over slots.
-use Rattle.std.proofs.Common.{◌≡◌, ℕ, suc, ◌≤◌, Bool, true, false, cond, List, [], ◌∷◌, ◌++◌, length, map, refl, sym, ◌∙◌, ap, subst, arith}
-use Rattle.std.specs.Prelude.{Option, Some, None, replicate, ⊤}
+use Rattle.std.proofs.Common.{◌≡◌, ℕ, suc, ◌≤◌, Bool, true, false, cond, List, [], ◌∷◌, ◌++◌, length, refl, sym, ◌∙◌, ap, subst, arith}
+use Rattle.std.specs.Prelude.{Option, Some, None, replicate}
 use Rattle.std.proofs.lemmas.Bool.{false≢true}
 use Rattle.pi_terms.specs.Tree.{Tree, Trees}
 use Rattle.pi_terms.specs.Places.{Places}
@@ -31,21 +31,17 @@ use Rattle.pi_meaning.specs.OverNames.Heads.{patterns_matched}
 use Rattle.pi_meaning.specs.OverNames.Rules as over_names
 use Rattle.pi_meaning.specs.OverNames.Rules.{places_in, names_before, rule_or_later, rules_called, function_names, body_or_none, applied, function_or_later, functions_called}
 use Rattle.pi_rewrite_spec.specs.Slots.{SlotNames}
-use Rattle.pi_rewrite_spec.specs.Values.{SlotValue, last_value}
-use Rattle.pi_rewrite_spec.specs.Goals as over_slots
-use Rattle.pi_rewrite_spec.specs.Goals.{SlotGoals, in_turn, made}
-use Rattle.pi_rewrite_spec.specs.Lowered.{head_forms, head_slots, is_truth, as_guard, goals_or_none, guard_of, rule_with, lowered_rule, function_with, lowered_function}
+use Rattle.pi_rewrite_spec.specs.Values.{SlotValue}
+use Rattle.pi_rewrite_spec.specs.Goals.{SlotGoals, in_turn}
+use Rattle.pi_rewrite_spec.specs.Clauses.{head_forms, head_slots, is_truth, as_guard, guard_of, rule_with, function_with}
 use Rattle.pi_rewrite_spec.specs.Forms.{Knows, ArePatterns}
-use Rattle.pi_rewrite_laws.specs.Within.{IsGoalOrNone, IsRule, IsFunction}
 use Rattle.pi_rewrite_spec.proofs.SameLemmas.{SameBy, same-equals, same-one, same-then, same-chosen, same-equal}
 use Rattle.pi_rewrite_spec.proofs.AgreeLemmas.{Room, free_room, Grows, grows-none, grows-length, Agrees}
 use Rattle.pi_rewrite_spec.proofs.NewNameLemmas.{agrees-nothing}
 use Rattle.pi_rewrite_spec.proofs.RunLemmas.{Alike, point, place, AtPlace, at_place, AtValue, at_value, SameGoals, SameLast, not-drained, same-strictly}
-use Rattle.pi_rewrite_spec.proofs.ControlLemmas.{Drains, none-goals, turn-from}
+use Rattle.pi_rewrite_spec.proofs.ControlLemmas.{Drains, turn-from}
 use Rattle.pi_rewrite_laws.proofs.HeadLemmas.{Both, neither, both_match, patterns-match}
-use Rattle.pi_rewrite_laws.proofs.FormLemmas.{value-last}
 use Rattle.pi_rewrite_laws.proofs.FoundLemmas.{values-behind}
-use Rattle.pi_rewrite_laws.proofs.GoalLemmas.{goal-same, made-same}
 
 -- ---- conditions
 
@@ -256,50 +252,3 @@ values-same known set b l m alike _ _ no_functions i ts s = refl
 values-same known set b l m alike _ _ (more_functions f fs cs lc lb lv is rest) i ts s =
     function-answer known set b l m alike f lc lb lv is s (rules b l (λ c. false) (λ i c p. value_run b c p) (suc i) cs ts s) (functions_called set fs m ts s) (values-same known set b l m alike fs cs rest (suc i) ts s) _ _
     (head-tried s f.head is.head (function_of f lc lb lv).slots (function-room set b l m f lc lb lv is) ts)
-
--- ---- lowered rules and functions
-
-guard-lowered : (known : Knows) (set : RulesSetting) (b : Builtins) (l m : Level) (h : ℕ) → Alike known set.calls b l m → (before : Names) (o : Option ExpTree) → IsGoalOrNone known o → GuardSame set b l m h before o (goals_or_none h o)
-guard-lowered known set b l m h alike before None is = no_guard
-guard-lowered known set b l m h alike before (Some c) is = a_guard c (over_slots.goal_of h c) (goal-same known set.calls b l m h alike before c is)
-
-body-same : (known : Knows) (set : RulesSetting) (b : Builtins) (l m : Level) (h : ℕ) → Alike known set.calls b l m → (before : Names) (o : Option ExpTree) → IsGoalOrNone known o → SameGoals b l m h (body_or_none set before o) (goals_or_none h o)
-body-same known set b l m h alike before None is = none-goals b l m h
-body-same known set b l m h alike before (Some e) is = goal-same known set.calls b l m h alike before e is
-
-abbrev pub EachRule : Knows → List RuleTree → Type 0
-EachRule known [] = ⊤
-EachRule known (r ∷ rs) = IsRule known r × EachRule known rs
-
-rules-lowered : (known : Knows) (set : RulesSetting) (b : Builtins) (l m : Level) → Alike known set.calls b l m → (rs : List RuleTree) → EachRule known rs → RulesSame set b l m rs (map lowered_rule rs)
-unfolding lowered_rule
-rules-lowered known set b l m alike [] is = no_rules
-rules-lowered known set b l m alike (r ∷ rs) is =
-    let h : ℕ = head_slots r.head in
-    more_rules r rs _ (map lowered_rule rs) (same_rule (goals_or_none h r.cond) (over_slots.goal_of h r.body) is.0.head is.0.events (guard-lowered known set b l m h alike (behind [] (places r.head)) r.cond is.0.cond)
-    (goal-same known set.calls b l m h alike (names_before r.head r.cond) r.body is.0.body)) (rules-lowered known set b l m alike rs is.1)
-
-pub rules-same : (known : Knows) (set : RulesSetting) (b : Builtins) (l m : Level) → Alike known set.calls b l m → (rs : List RuleTree) → EachRule known rs → (the_call : Tree) (i : ℕ) (ts : Trees) (s : State) →
-    rules b l (λ c. backtracks c.back c.watches) (λ i c p. body_or_agent b the_call i c c.watches p) i (map lowered_rule rs) ts s ≡ rules_called set the_call i rs m ts s
-rules-same known set b l m alike rs is the_call i ts s = clauses-same known set b l m alike rs (map lowered_rule rs) (rules-lowered known set b l m alike rs is) the_call i ts s
-
-abbrev pub EachFunction : Knows → List FunctionTree → Type 0
-EachFunction known [] = ⊤
-EachFunction known (f ∷ fs) = IsFunction known f × EachFunction known fs
-
-functions-lowered : (known : Knows) (set : RulesSetting) (b : Builtins) (l m : Level) → Alike known set.calls b l m → (fs : List FunctionTree) → EachFunction known fs → FunctionsSame set b l m fs (map lowered_function fs)
-unfolding lowered_function
-functions-lowered known set b l m alike [] is = no_functions
-functions-lowered known set b l m alike (f ∷ fs) is =
-    let h : ℕ = head_slots f.head in
-    let within : Names = behind (names_before f.head f.cond) (places_in f.body) in
-    more_functions f fs (map lowered_function fs) (goals_or_none h f.cond) (goals_or_none h f.body) (λ ns. last_value f.value ns (made h f.value ns)) (record {
-      head = is.0.head;
-      guard = guard-lowered known set b l m h alike (function_names f) f.cond is.0.cond;
-      body = body-same known set b l m h alike (behind (function_names f) (places_in f.cond)) f.body is.0.body;
-      value = value-last known set.calls b l m h within f.value is.0.value (made-same known set.calls b l m h alike within f.value is.0.value);
-    }) (functions-lowered known set b l m alike fs is.1)
-
-pub functions-same : (known : Knows) (set : RulesSetting) (b : Builtins) (l m : Level) → Alike known set.calls b l m → (fs : List FunctionTree) → EachFunction known fs → (i : ℕ) (ts : Trees) (s : State) →
-    rules b l (λ c. false) (λ i c p. value_run b c p) i (map lowered_function fs) ts s ≡ functions_called set fs m ts s
-functions-same known set b l m alike fs is i ts s = values-same known set b l m alike fs (map lowered_function fs) (functions-lowered known set b l m alike fs is) i ts s

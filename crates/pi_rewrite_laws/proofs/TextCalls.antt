@@ -23,8 +23,7 @@ use Rattle.pi_rewrite_spec.specs.Sites.{Site, helpers_in, helpers_in_all, behind
 use Rattle.pi_rewrite_spec.specs.Written as written
 use Rattle.pi_rewrite_spec.specs.Written.{last_one, pair_values, three_values, made, parts, arguments}
 use Rattle.pi_rewrite_spec.specs.Helpers.{helpers_at, goal_call_helpers, value_helpers, all_helpers, values_helpers, goals_helpers, goal_helpers}
-use Rattle.pi_rewrite_spec.specs.Forms.{Knows, IsTerm, AreTerms, IsFunctionCall, IsPredicateCall}
-use Rattle.pi_rewrite_laws.specs.WithLoops.{IsExpression, AreExpressions, IsExpressionAt, IsGoalAt, IsGoal, IsBranch}
+use Rattle.pi_rewrite_spec.specs.Forms.{Knows, IsTerm, AreTerms, IsFunctionCall, IsPredicateCall, IsExpression, AreExpressions, IsExpressionAt, IsGoalAt, IsGoal, IsBranch}
 use Rattle.pi_rewrite_spec.proofs.RunLemmas.{Alike, SameGoals, SameLast, SameFilled, SameArguments}
 use Rattle.pi_rewrite_spec.proofs.FlatLemmas.{both}
 use Rattle.pi_rewrite_laws.proofs.FoundLemmas.{found-value, counted-value}

@@ -30,7 +30,7 @@ use Rattle.pi_rewrite_spec.specs.Comprehensions.{adding}
 use Rattle.pi_rewrite_spec.specs.Written as written
 use Rattle.pi_rewrite_spec.specs.Written.{while_loop, do_loop, turns_of, pair_values, three_values, is_range, Inner, inner_of, gathering, gathered_at, start_loop, started_goals, made, parts, arguments}
 use Rattle.pi_rewrite_spec.specs.Helpers.{helpers_at, value_helpers, all_helpers, goal_helpers, conjunct_helpers, branch_helpers, units_helpers, collection_helpers}
-use Rattle.pi_rewrite_laws.specs.WithLoops.{IsExpression, AreExpressions, IsGoal, AreGoals, AreBranches, IsBranch, HaveGoals, AreUnits, IsCollection}
+use Rattle.pi_rewrite_spec.specs.Forms.{IsExpression, AreExpressions, IsGoal, AreGoals, AreBranches, IsBranch, HaveGoals, AreUnits, IsCollection}
 use Rattle.pi_rewrite_spec.proofs.AgreeLemmas.{grows-then}
 use Rattle.pi_rewrite_spec.proofs.FilledLemmas.{is_comp, is_atom, items-filled}
 use Rattle.pi_rewrite_spec.proofs.RunLemmas.{SameGoals, SameLast, SameFilled, SameArguments, SameParts, goals-drained}

@@ -25,10 +25,10 @@ use Rattle.pi_rewrite_spec.specs.Sites.{Site}
 use Rattle.pi_rewrite_spec.specs.Written as written
 use Rattle.pi_rewrite_spec.specs.Written.{made}
 use Rattle.pi_rewrite_spec.specs.Helpers.{value_helpers, goal_helpers}
-use Rattle.pi_rewrite_spec.specs.Lowered.{lowered_fact}
+use Rattle.pi_rewrite_spec.specs.Clauses.{lowered_fact}
 use Rattle.pi_rewrite_spec.specs.Programs.{Naming, option_goals, option_count, option_helpers, behind_option, rule_site, written_rule, rule_count, rule_helpers, function_site, value_site, written_function, function_count, function_helpers}
-use Rattle.pi_rewrite_laws.specs.WithinLoops.{IsGoalOrNone, IsRule, IsFunction}
-use Rattle.pi_rewrite_laws.specs.Clauses.{pred_with}
+use Rattle.pi_rewrite_laws.specs.Within.{IsGoalOrNone, IsRule, IsFunction}
+use Rattle.pi_rewrite_laws.proofs.FindLemmas.{pred_with}
 use Rattle.pi_rewrite_laws.specs.Levels.{SameLevels}
 use Rattle.pi_rewrite_spec.proofs.RunLemmas.{Alike, SameGoals}
 use Rattle.pi_rewrite_spec.proofs.ControlLemmas.{none-goals}

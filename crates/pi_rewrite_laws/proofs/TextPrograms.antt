@@ -10,12 +10,11 @@ use Rattle.pi_core.specs.CoreTree.{ClauseTree, PredTree, index_of}
 use Rattle.pi_meaning.specs.OverNames.WrittenRules.{is_signature, is_rule_of, rule_in, rules_of, head_arguments}
 use Rattle.pi_meaning.specs.OverNames.Rules.{function_in, fact_head, is_head_of, rules_named, facts_named, functions_named}
 use Rattle.pi_rewrite_spec.specs.Forms.{Knows, ArePatterns}
-use Rattle.pi_rewrite_spec.specs.Lowered.{named_by, Lowering}
+use Rattle.pi_rewrite_spec.specs.Clauses.{named_by, Lowering}
 use Rattle.pi_rewrite_spec.specs.Helpers.{value_helpers, goal_helpers}
 use Rattle.pi_rewrite_spec.specs.Sites.{Site, helpers_in}
 use Rattle.pi_rewrite_spec.specs.Programs.{Naming, option_count, option_helpers, behind_option, rule_site, written_rule, rule_count, rule_helpers, function_site, value_site, written_function, function_count, function_helpers, clause_count, written_clause, clause_helpers, clauses_of, helpers_of}
-use Rattle.pi_rewrite_laws.specs.WithinLoops.{IsGoalOrNone, IsRule, IsFunction, IsClause, IsPart}
-use Rattle.pi_rewrite_laws.specs.Within.{Key, key_of, keys}
+use Rattle.pi_rewrite_laws.specs.Within.{IsGoalOrNone, IsRule, IsFunction, IsClause, IsPart, Key, key_of, keys}
 use Rattle.pi_rewrite_laws.proofs.FindLemmas.{Modes, of, matches, keys_of, chosen, clauses}
 use Rattle.pi_rewrite_laws.proofs.FactLemmas.{EachFact}
 use Rattle.pi_rewrite_laws.proofs.FactParts.{Lowers, no_clause, a_rule, a_function, a_fact, LowersAll, no_parts, one_part, same-named, none-kept, passed-clauses}

@@ -10,8 +10,7 @@ use Rattle.pi_meaning.specs.OverNames.Goals.{units_of, collection_of, goal_of}
 use Rattle.pi_meaning.proofs.OverNames.LoopNames.{among-append, Within, AreNamed, behind-named, shared-before, inside-before}
 use Rattle.pi_rewrite_spec.specs.Slots.{SlotNames}
 use Rattle.pi_rewrite_spec.specs.Values.{slot_pattern}
-use Rattle.pi_rewrite_spec.specs.Forms.{IsPattern}
-use Rattle.pi_rewrite_laws.specs.WithLoops.{IsUnit}
+use Rattle.pi_rewrite_spec.specs.Forms.{IsPattern, IsUnit}
 use Rattle.pi_rewrite_spec.specs.Goals.{SlotGoals}
 use Rattle.pi_rewrite_spec.specs.Sites.{Site, iterator_helpers, helpers_in, helpers_in_units, behind_exp}
 use Rattle.pi_rewrite_spec.specs.Loops.{Ending, as_it_is, Loop, loop_slots, only_turn_helper}

@@ -78,9 +78,6 @@ item-slot w = values-long w.kept (replicate walk_slots unnamed ++ w.shared) ∙ 
 wide : (w : Loop) → handed w + 2 ≤ array_slots w
 wide w = omega (arith, closing-room w.kept (length (end_slots walk_slots w) + 2), item-slot w)
 
-two-filled : (w : Loop) (d : Tree) (i all : Tree) (hs : List Tree) (m : ℕ) → AllFilled (entered (walked d i all hs) m) (trees_of (Tree.var 1 ∷ Tree.var 2 ∷ [])) (trees_of (i ∷ all ∷ []))
-two-filled w d i all hs m = one_filled (in_slot 1 i refl) (one_filled (in_slot 2 all refl) none_filled)
-
 -- the test whether an item is left
 left-tested : (known : Knows) (set : Setting) (b : Builtins) (l k : Level) → Alike known set b l k → (d : Tree) (i all : ℤ) (hs : List Tree) (m : ℕ) (s : State) →
     strictly (meaning b (GoalTree.call (codes "<") (Tree.var 1 ∷ Tree.var 2 ∷ []))) (point l (entered (walked d (Tree.int i) (Tree.int all) hs) m) s) ≡ cond (int_lt i all) (one (point l (entered (walked d (Tree.int i) (Tree.int all) hs) m) s)) done

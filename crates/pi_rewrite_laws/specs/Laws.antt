@@ -1,11 +1,10 @@
 -- What lowering keeps. A core program keeps the meaning of a program, and a query that of a goal: with all names of the language as built-ins, what they do is what is done over names,
--- whatever the view is, and whatever later stages give that goes by calls and keeps what terms are followed to. Which core program and which query they are doesn't count.
-use Rattle.std.specs.Prelude.{◌≡◌, ◌<◌, ℕ, Contains, List, ◌++◌, is_some, true, false}
+-- whatever the view is, and whatever later stages give that goes by calls and keeps what terms are followed to.
+use Rattle.std.specs.Prelude.{◌≡◌, ℕ, List, ◌++◌, is_some, true, false, None}
 use Rattle.pi_constraints.specs.State.{State}
 use Rattle.pi_syntax.specs.ExpTree.{ExpTree}
 use Rattle.pi_syntax.specs.ProgramTree.{ProgramTree}
-use Rattle.pi_core.specs.CoreTree.{ClauseTree, PredTree, find_pred, QueryTree}
-use Rattle.pi_core.specs.declared.core_program.NameSlot.{NameSlot}
+use Rattle.pi_core.specs.CoreTree.{PredTree, find_pred, QueryTree}
 use Rattle.pi_meaning.specs.Traces.Trace.{Trace, then}
 use Rattle.pi_meaning.specs.Traces.Depth.{Cut}
 use Rattle.pi_meaning.specs.Shared.View.{View}
@@ -14,7 +13,6 @@ use Rattle.pi_meaning.specs.CoreMeaning.Instances.{is_called_by_name, whole}
 use Rattle.pi_meaning.specs.CoreMeaning.Meaning.{in_state, meaning, strictly}
 use Rattle.pi_meaning.specs.CoreMeaning.Rules.{level_at}
 use Rattle.pi_meaning.specs.CoreMeaning.Run.{Solution, query_start, answered_with, IsRunUnder}
-use Rattle.pi_meaning.specs.CoreMeaning.Sound.{SlotsBelow, KeepsSlots}
 use Rattle.pi_meaning.specs.OverNames.Place.{at_state, beginning}
 use Rattle.pi_meaning.specs.OverNames.Telling.{place_told, told_trace, told_cut}
 use Rattle.pi_meaning.specs.Shared.Told.{solution_told}
@@ -24,7 +22,8 @@ use Rattle.pi_meaning.specs.OverNames.Run.{program_level, answer_names, names_fr
 use Rattle.pi_rewrite_spec.specs.Forms.{Knows}
 use Rattle.pi_rewrite_laws.specs.Levels.{SameLevels, GoesByCalls}
 use Rattle.pi_rewrite_laws.specs.Roots.{LaterKeepsRoots}
-use Rattle.pi_rewrite_laws.specs.Within.{knows, IsWithin, IsAsked}
+use Rattle.pi_rewrite_spec.specs.Programs.{Naming, core_program, core_query}
+use Rattle.pi_rewrite_laws.specs.Within.{knows, HasForms, IsAsked, AreOwn, AreQuiet}
 
 -- what a program has, with the prelude
 abbrev pub known_of : ProgramTree → Knows
@@ -38,16 +37,15 @@ pub record DefinesTheSame (program : ProgramTree) (preds : List PredTree) : Type
   pub functions : (name : List ℕ) (k : ℕ) → is_some (find_pred true name k preds) ≡ (known_of program).function name k
 
 -- A call of such a predicate or function does what the call over names does, under every view, at each depth and from each state: the same Ticks, loads and outputs, the same end, and in
--- each answer the same value and the same state, so that variables have the same numbers.
-abbrev pub CallsTheSame : ProgramTree → List PredTree → Type 0
-CallsTheSame program preds = (v : View) (later : LaterStages) → GoesByCalls (known_of program) later.calls → LaterKeepsRoots later.calls → (d : ℕ) →
-    SameLevels (known_of program) (level_at (whole v later.calls preds) preds d) (program_level v later program d)
+-- each answer the same value and the same state, so that variables have the same numbers. So it does with further quiet predicates behind the core program, as those of a query's loops.
+abbrev pub CallsKeepMeaning : ProgramTree → List PredTree → Type 0
+CallsKeepMeaning program preds = (more : List PredTree) → AreQuiet more → (v : View) (later : LaterStages) → GoesByCalls (known_of program) later.calls → LaterKeepsRoots later.calls → (d : ℕ) →
+    SameLevels (known_of program) (level_at (whole v later.calls (preds ++ more)) (preds ++ more) d) (program_level v later program d)
 
--- a core program that keeps the meaning of a program, each clause of which names slots that it has
-pub record IsLoweredProgram (program : ProgramTree) (preds : List PredTree) : Type 0 where
-  pub slots : (pred : PredTree) → Contains preds pred → (c : ClauseTree) → Contains pred.clauses c → KeepsSlots c
+-- a core program that keeps the meaning of a program
+pub record KeepsMeaning (program : ProgramTree) (preds : List PredTree) : Type 0 where
   pub defines : DefinesTheSame program preds
-  pub calls : CallsTheSame program preds
+  pub calls : CallsKeepMeaning program preds
 
 -- ---- goals
 
@@ -65,19 +63,17 @@ abbrev pub RunsTheSame : ProgramTree → ExpTree → List PredTree → QueryTree
 RunsTheSame program goal preds q = (v : View) (later : LaterStages) → GoesByCalls (known_of program) later.calls → LaterKeepsRoots later.calls → (n : ℕ) (c : Cut Solution) → IsRunUnder (whole v later.calls (preds ++ q.helpers)) preds q n c →
     IsNamesRun v later program goal n (told_cut (solution_told q.names) c)
 
--- a query that keeps the meaning of a goal that is asked of a program, and names slots that it has
-pub record IsLowered (program : ProgramTree) (goal : ExpTree) (preds : List PredTree) (q : QueryTree) : Type 0 where
-  pub slots : SlotsBelow q.slots q.goal
-  pub names : (n : NameSlot) → Contains q.names n → n.slot < q.slots
-  pub means : MeansTheSame program goal preds q
-  pub runs : RunsTheSame program goal preds q
-
 -- ---- laws
 
--- each program that is lowered has a core program that keeps its meaning
-abbrev pub ProgramsHaveCorePrograms : Type 0
-ProgramsHaveCorePrograms = (program : ProgramTree) → IsWithin program → (preds : List PredTree) × IsLoweredProgram program preds
+-- names that no predicate of the core program has either
+abbrev pub AreNew : List PredTree → Naming → Type 0
+AreNew preds called = (n k : ℕ) → find_pred false (called n) k preds ≡ None
 
--- and of each such core program, each goal that is asked of the program has a query that keeps its meaning
-abbrev pub GoalsHaveQueries : Type 0
-GoalsHaveQueries = (program : ProgramTree) (goal : ExpTree) (preds : List PredTree) → IsLoweredProgram program preds → IsAsked program goal → (q : QueryTree) × IsLowered program goal preds q
+-- each program has a core program that keeps its meaning, whatever own names its helpers get
+abbrev pub ProgramsAreKept : Type 0
+ProgramsAreKept = (program : ProgramTree) → HasForms program → (called : Naming) → AreOwn (known_of program) called → KeepsMeaning program (core_program called program)
+
+-- and of each such, each goal has a query that means the same and has its runs, whatever own and new names its helpers get
+abbrev pub GoalsAreKept : Type 0
+GoalsAreKept = (program : ProgramTree) (goal : ExpTree) → HasForms program → IsAsked program goal → (called : Naming) → AreOwn (known_of program) called → (other : Naming) → AreOwn (known_of program) other →
+    AreNew (core_program called program) other → MeansTheSame program goal (core_program called program) (core_query other goal) × RunsTheSame program goal (core_program called program) (core_query other goal)

@@ -1,17 +1,18 @@
--- Which programs and goals are lowered: rules, facts and functions, each of forms that are lowered, with a head whose name means nothing else, and the clauses of each predicate and function
--- together. (Own.)
+-- Which programs and goals have a core program that keeps their meaning: rules, facts and functions, each of forms that are lowered, with a head whose name means nothing else, and the
+-- clauses of each predicate and function together. And which names the helpers of loops may have. (Own.)
 use Rattle.std.specs.Prelude.{◌≡◌, ◌⊎◌, ℕ, Bool, true, false, ◌||◌, List, [], ◌∷◌, ◌++◌, length, filter_map, Option, Some, None, IsSome, All, Contains, ⊤}
 use Rattle.pi_syntax.specs.ExpTree.{ExpTree}
 use Rattle.pi_syntax.specs.ProgramTree.{RuleTree, FunctionTree, WrittenClause, rule, function, fact, PartTree, ProgramTree}
 use Rattle.pi_syntax.specs.Signature.{Signature, signature, exp_count}
 use Rattle.pi_syntax.specs.declared.program.Mode.{Mode}
-use Rattle.pi_core.specs.CoreTree.{index_of}
+use Rattle.pi_core.specs.CoreTree.{PredTree, index_of}
 use Rattle.pi_meaning.specs.Shared.Names.{is_given_predicate, is_given_function}
 use Rattle.pi_meaning.specs.OverNames.WrittenRules.{head_arguments}
 use Rattle.pi_meaning.specs.OverNames.Rules.{fact_head, is_head_in, rules_named, facts_named, heads_named, functions_named}
 use Rattle.pi_meaning.specs.OverNames.Prelude.{prelude}
 use Rattle.pi_meaning.specs.OverNames.Run.{is_some_head}
 use Rattle.pi_rewrite_spec.specs.Forms.{Knows, IsExpression, IsGoal, ArePatterns}
+use Rattle.pi_rewrite_spec.specs.Programs.{Naming}
 
 abbrev pub is_some_function : List FunctionTree → Bool
 is_some_function [] = false
@@ -107,13 +108,22 @@ pub record IsIndexed (name : List ℕ) (k : ℕ) (program : ProgramTree) : Type 
   pub first : BeginsWithModes (declared_before name k program)
 
 -- A program that is lowered. The clauses of the prelude stand in front of its own, so that what these define is known, and no clause of its own is of one of theirs.
-pub record IsWithin (program : ProgramTree) : Type 0 where
-  pub parts : All (IsPart (knows (prelude ++ program))) program
+pub record HasForms (program : ProgramTree) : Type 0 where
+  pub parts : All (IsPart (knows (prelude ++ program))) (prelude ++ program)
   pub together : StandTogether [] (keys (prelude ++ program))
   pub indexed : (name : List ℕ) (k : ℕ) → IsIndexed name k (prelude ++ program)
-  -- no name is with one number of arguments both a predicate's and a function's
-  pub apart : (a b : Key) → Contains (keys (prelude ++ program)) a → Contains (keys (prelude ++ program)) b → a.named ≡ b.named → a.kind ≡ b.kind
 
 -- a goal that is asked of it
 abbrev pub IsAsked : ProgramTree → ExpTree → Type 0
 IsAsked program goal = IsGoal (knows (prelude ++ program)) goal
+
+-- Names for helpers: none is one of a predicate of the program, or does anything by itself, and no two are one.
+pub record AreOwn (known : Knows) (called : Naming) : Type 0 where
+  pub unknown : (n k : ℕ) → known.predicate (called n) k ≡ false
+  pub plain : (n k : ℕ) → is_given_predicate (called n) k ≡ false
+  pub apart : (i j : ℕ) → called i ≡ called j → i ≡ j
+
+-- further predicates that no one calls but helpers
+abbrev pub AreQuiet : List PredTree → Type 0
+AreQuiet [] = ⊤
+AreQuiet (p ∷ ps) = (p.quiet ≡ true) × (p.function ≡ false) × AreQuiet ps

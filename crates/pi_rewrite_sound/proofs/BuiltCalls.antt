@@ -15,8 +15,7 @@ use Rattle.pi_prog_clauses.specs.Calls.{Named, named, goal_calls, is_known}
 use Rattle.pi_prog_clauses.specs.Operators.{is_goal_sign, is_membership, is_reified}
 use Rattle.pi_prog_clauses.specs.Places.{asked, expression}
 use Rattle.pi_rewrite_sound.specs.Built.{is_own, is_prelude_kind, is_built_predicate, is_built_function, is_built_value_call, is_built_form, is_built_atom, is_variable, is_assigned}
-use Rattle.pi_rewrite_spec.specs.Forms.{Knows, IsFunctionCall, IsPredicateCall, IsAtomGoal}
-use Rattle.pi_rewrite_laws.specs.WithLoops.{IsAssigned}
+use Rattle.pi_rewrite_spec.specs.Forms.{Knows, IsFunctionCall, IsPredicateCall, IsAtomGoal, IsAssigned}
 use Rattle.pi_rewrite_sound.proofs.KnownCalls.{AreKnown, goal-known}
 use Rattle.pi_rewrite_sound.proofs.PlainNames.{is_no_expression, has_places, own-form, term-plain, built-plain, function-built-plain}
 use Rattle.pi_rewrite_sound.proofs.CallPlaces.{place_behind}

@@ -9,8 +9,7 @@ use Rattle.pi_meaning.specs.OverNames.Forms.{form_of}
 use Rattle.pi_prog_clauses.specs.Calls.{Named, calls_of_goal}
 use Rattle.pi_prog_clauses.specs.Places.{goal, asked, expression, iterator, placed, called, below, all_placed, arguments_placed, branches_placed}
 use Rattle.pi_rewrite_sound.specs.Built.{are_some, is_built_value, are_built_values, is_built_value_at, is_built_goal_at, is_built_goal, are_built_goals, are_built_branches, is_built_branch, have_built_goals, is_built_pattern, is_built_form, is_assigned, is_built_unit, is_built_collection, are_built_units}
-use Rattle.pi_rewrite_spec.specs.Forms.{Knows}
-use Rattle.pi_rewrite_laws.specs.WithLoops.{IsUnit, IsExpression, AreExpressions, IsExpressionAt, IsGoalAt, IsGoal, AreGoals, AreBranches, IsBranch, HaveGoals, AreUnits, IsCollection}
+use Rattle.pi_rewrite_spec.specs.Forms.{Knows, IsUnit, IsExpression, AreExpressions, IsExpressionAt, IsGoalAt, IsGoal, AreGoals, AreBranches, IsBranch, HaveGoals, AreUnits, IsCollection}
 use Rattle.pi_rewrite_sound.proofs.KnownCalls.{AreKnown, AreFine, nodes-apart}
 use Rattle.pi_rewrite_sound.proofs.BuiltTerms.{term-of, pattern-of}
 use Rattle.pi_rewrite_sound.proofs.CallPlaces.{plain-arguments, goal-arguments, iterator-arguments, below-asked, below-iterator, place_behind}

@@ -18,13 +18,12 @@ use Rattle.pi_rewrite_spec.specs.Slots.{SlotNames}
 use Rattle.pi_rewrite_spec.specs.Values.{SlotValue, last_value}
 use Rattle.pi_rewrite_spec.specs.Goals.{SlotGoals, in_turn}
 use Rattle.pi_rewrite_spec.specs.Forms.{Knows, ArePatterns}
-use Rattle.pi_rewrite_spec.specs.Lowered.{head_forms, head_slots, is_truth, guard_of, lowered_fact, named_by}
+use Rattle.pi_rewrite_spec.specs.Clauses.{head_forms, head_slots, is_truth, guard_of, lowered_fact, named_by}
 use Rattle.pi_rewrite_spec.specs.Sites.{Site}
 use Rattle.pi_rewrite_spec.specs.Written.{made, goal_of}
 use Rattle.pi_rewrite_spec.specs.Helpers.{value_helpers, goal_helpers}
 use Rattle.pi_rewrite_spec.specs.Programs.{Naming, option_goals, option_helpers, behind_option, rule_site, written_rule, rule_helpers, function_site, value_site, written_function, function_helpers}
-use Rattle.pi_rewrite_laws.specs.Within.{IsFree}
-use Rattle.pi_rewrite_laws.specs.WithinLoops.{IsGoalOrNone, IsRule, IsFunction}
+use Rattle.pi_rewrite_laws.specs.Within.{IsFree, IsGoalOrNone, IsRule, IsFunction}
 use Rattle.pi_rewrite_laws.proofs.SoundLemmas.{nothing-in, patterns-below, patterns-count}
 use Rattle.pi_rewrite_laws.proofs.TextLevels.{nothing-named}
 use Rattle.pi_rewrite_sound.specs.Built.{are_built_patterns, are_none, is_built_value, is_built_goal, is_built_goal_or_none, is_built_rule, is_built_function_rule}

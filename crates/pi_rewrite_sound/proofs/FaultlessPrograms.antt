@@ -15,8 +15,7 @@ use Rattle.pi_prog_clauses.specs.Places.{goal, expression, test, placed, placed_
 use Rattle.pi_prog_clauses.specs.Verdict.{Unknown, JudgedClause, JudgedPart, refused, libraries, one_clause, judged, as_list, definition, all_defined, part_calls, unknown_or, first_unknown_in, decl_of, parts_of}
 use Rattle.pi_rewrite_sound.specs.Built.{are_built_patterns, is_built_goal, is_built_value, is_built_goal_or_none, are_none, is_built_rule, is_built_function_rule, is_built_clause, is_built, is_built_part, unbuilt_from, unbuilt_part}
 use Rattle.pi_rewrite_spec.specs.Forms.{Knows}
-use Rattle.pi_rewrite_laws.specs.Within.{knows}
-use Rattle.pi_rewrite_laws.specs.WithinLoops.{IsGoalOrNone, IsRule, IsFunction, IsClause, IsPart}
+use Rattle.pi_rewrite_laws.specs.Within.{knows, IsGoalOrNone, IsRule, IsFunction, IsClause, IsPart}
 use Rattle.pi_rewrite_sound.specs.Within.{IsWithin}
 use Rattle.pi_rewrite_sound.specs.FaultlessLaws.{FaultlessProgramsAreWithin}
 use Rattle.pi_rewrite_sound.proofs.KnownCalls.{goes-on, AreFine, nodes-apart, nodes-fine}

@@ -11,7 +11,7 @@ use Rattle.pi_meaning.specs.CoreMeaning.Quiet.{Callee, Passes, Reaches, ReachesI
 use Rattle.pi_meaning.specs.CoreMeaning.Sound.{NamesBelow, SlotsBelow}
 use Rattle.pi_rewrite_spec.specs.Forms.{Knows}
 use Rattle.pi_rewrite_spec.specs.Goals.{in_turn, either_of}
-use Rattle.pi_rewrite_laws.proofs.FineLemmas.{first-of, rest-of}
+use Rattle.pi_rewrite_laws.proofs.BelowLemmas.{first-of, rest-of}
 use Rattle.pi_rewrite_laws.proofs.SoundLemmas.{nothing-in, cons-cases}
 
 -- a goal names slots below n, and calls what may be called

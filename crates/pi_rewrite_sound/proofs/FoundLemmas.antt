@@ -12,7 +12,7 @@ use Rattle.pi_core.specs.CoreTree.{PredTree, is_pred, find_pred}
 use Rattle.pi_effects.specs.BuiltIns.{is_function}
 use Rattle.pi_meaning.specs.CoreMeaning.Defined.{is_machine_predicate}
 use Rattle.pi_rewrite_spec.specs.Forms.{Knows}
-use Rattle.pi_rewrite_laws.specs.WithinLoops.{AreQuiet}
+use Rattle.pi_rewrite_laws.specs.Within.{AreQuiet}
 use Rattle.pi_rewrite_spec.proofs.AgreeLemmas.{text_itself}
 use Rattle.pi_rewrite_laws.proofs.HeadLemmas.{text_by_order}
 use Rattle.pi_rewrite_laws.proofs.OwnLemmas.{find-append}

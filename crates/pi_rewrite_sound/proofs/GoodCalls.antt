@@ -16,7 +16,7 @@ use Rattle.pi_rewrite_spec.specs.Goals.{SlotParts, just, goals_at, value_at, fou
 use Rattle.pi_rewrite_spec.specs.Forms.{Knows, IsFunctionCall, IsPredicateCall, IsAtomGoal}
 use Rattle.pi_rewrite_spec.specs.Sites.{Site, helpers_in, behind_site, behind_exp, following_sites, caught_sites, goal_sites, found_sites, value_sites}
 use Rattle.pi_rewrite_spec.specs.Helpers.{HelperParts, helpers_at, goal_call_helpers}
-use Rattle.pi_rewrite_laws.proofs.FineLemmas.{none-below}
+use Rattle.pi_rewrite_laws.proofs.BelowLemmas.{none-below}
 use Rattle.pi_rewrite_sound.specs.Built.{is_built_predicate, is_built_function, is_built_form}
 use Rattle.pi_rewrite_sound.proofs.NameLemmas.{predicate-there, function-there}
 use Rattle.pi_rewrite_sound.proofs.FineGoals.{fine-truth, fine-fail, fine-call}

@@ -44,9 +44,6 @@ good-nothing {known} = record { longer = λ ns. omega arith; fine = λ may allow
 pub good-just : {known : Knows} (g : GoalTree) → ((n : ℕ) (may : Knows) → Allows known may → Fine n may g) → GoodGoals known [] (λ ns. just g ns)
 good-just {known} g is = record { longer = λ ns. omega arith; fine = λ may allows has n ns room. fine-one n may g (is n may allows); helpers = no-helpers known }
 
-pub good-never : {known : Knows} → GoodGoals known [] never
-good-never = good-just fail (λ n may allows. fine-fail n may)
-
 pub good-joined : {known : Knows} {ps qs : List PredTree} {f g : SlotNames → SlotGoals} → GoodGoals known ps f → GoodGoals known qs g → GoodGoals known (ps ++ qs) (λ ns. joined (f ns) (g (f ns).names))
 good-joined {known} {ps} {qs} {f} {g} is are = record {
   longer = λ ns. omega (arith, is.longer ns, are.longer (f ns).names);

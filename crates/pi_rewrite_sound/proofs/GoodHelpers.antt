@@ -34,10 +34,6 @@ pub has-last : (may : Knows) (ps qs : List PredTree) → Has may (ps ++ qs) → 
 has-last may [] qs has = has
 has-last may (p ∷ ps) qs has = has-last may ps qs has.1
 
-pub has-both : (may : Knows) (ps qs : List PredTree) → Has may ps → Has may qs → Has may (ps ++ qs)
-has-both may [] qs one two = two
-has-both may (p ∷ ps) qs one two = (one.0, has-both may ps qs one.1 two)
-
 -- ---- clauses
 
 -- a committed rule without a condition, of so many arguments

@@ -22,14 +22,13 @@ use Rattle.pi_rewrite_spec.specs.Slots.{SlotNames}
 use Rattle.pi_rewrite_spec.specs.Values.{is_flat, are_flat, last_value, value_by}
 use Rattle.pi_rewrite_spec.specs.Goals as slots
 use Rattle.pi_rewrite_spec.specs.Goals.{SlotGoals, begins_flat, just}
-use Rattle.pi_rewrite_spec.specs.Forms.{Knows}
-use Rattle.pi_rewrite_laws.specs.WithLoops.{IsExpression, AreExpressions, IsExpressionAt, IsGoalAt, IsGoal, AreGoals, AreBranches, IsBranch, HaveGoals, AreUnits, IsCollection}
+use Rattle.pi_rewrite_spec.specs.Forms.{Knows, IsExpression, AreExpressions, IsExpressionAt, IsGoalAt, IsGoal, AreGoals, AreBranches, IsBranch, HaveGoals, AreUnits, IsCollection}
 use Rattle.pi_rewrite_spec.specs.Sites.{Site, helpers_in, helpers_in_all, helpers_in_branches, behind_site, behind_exp, following_sites, goal_sites, value_sites}
 use Rattle.pi_rewrite_spec.specs.Loops.{Ending, as_it_is, in_order, Loop, while_helper, do_helper}
 use Rattle.pi_rewrite_spec.specs.Comprehensions.{adding}
 use Rattle.pi_rewrite_spec.specs.Written.{while_loop, do_loop, turns_of, Inner, inner_of, gathering, gathered_at, is_range, made, parts, arguments, values_in, goals_in, goal_of, all_of, any_of, arrow_in, branches_of, units}
 use Rattle.pi_rewrite_spec.specs.Helpers.{helpers_at, value_helpers, all_helpers, values_helpers, goals_helpers, goal_helpers, conjunct_helpers, branch_helpers, units_helpers, collection_helpers}
-use Rattle.pi_rewrite_laws.proofs.FineLemmas.{atom-below, items-below}
+use Rattle.pi_rewrite_laws.proofs.BelowLemmas.{atom-below, items-below}
 use Rattle.pi_rewrite_laws.proofs.FormLemmas.{a-term}
 use Rattle.pi_rewrite_laws.proofs.TextCalls.{arguments-count}
 use Rattle.pi_rewrite_laws.proofs.CollectLemmas.{hidden-named, hidden-within, hidden-stands, hidden-shared}

@@ -18,8 +18,7 @@ use Rattle.pi_meaning.proofs.OverNames.LoopNames.{among-append, Within, AreNamed
 use Rattle.pi_rewrite_spec.specs.Slots.{SlotNames, slot_for, slots_for}
 use Rattle.pi_rewrite_spec.specs.Values.{SlotValue}
 use Rattle.pi_rewrite_spec.specs.Goals.{SlotGoals}
-use Rattle.pi_rewrite_spec.specs.Forms.{Knows, IsPattern}
-use Rattle.pi_rewrite_laws.specs.WithLoops.{IsUnit}
+use Rattle.pi_rewrite_spec.specs.Forms.{Knows, IsPattern, IsUnit}
 use Rattle.pi_rewrite_spec.specs.Sites.{Site, behind_exp}
 use Rattle.pi_rewrite_spec.specs.Loops.{Ending, as_it_is, Loop, started, as_written, only_turn_helper}
 use Rattle.pi_rewrite_spec.specs.Iterators.{tested, found_by}
@@ -28,7 +27,7 @@ use Rattle.pi_rewrite_spec.specs.Written.{Inner, start_loop, iterator_loop, turn
 use Rattle.pi_rewrite_spec.specs.Helpers.{own_helpers, iterated_helpers, unit_helpers, started_helpers}
 use Rattle.pi_rewrite_spec.proofs.AgreeLemmas.{grows-length, grows-for}
 use Rattle.pi_rewrite_spec.proofs.TermLemmas.{name-room, term-grows}
-use Rattle.pi_rewrite_laws.proofs.FineLemmas.{none-below, front-below, var-below, atom-below}
+use Rattle.pi_rewrite_laws.proofs.BelowLemmas.{none-below, front-below, var-below, atom-below}
 use Rattle.pi_rewrite_laws.proofs.CollectionLemmas.{found-long}
 use Rattle.pi_rewrite_laws.proofs.HelperLemmas.{AreAmong}
 use Rattle.pi_rewrite_laws.proofs.LoopTexts.{shared-among, inside-among, kept-before, kept-among-inside}

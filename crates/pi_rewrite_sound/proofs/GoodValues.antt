@@ -18,8 +18,8 @@ use Rattle.pi_rewrite_spec.specs.Goals.{SlotGoals, in_turn, no_value, called, as
 use Rattle.pi_rewrite_spec.specs.Written.{pair_values, three_values}
 use Rattle.pi_rewrite_spec.proofs.AgreeLemmas.{grows-length, grows-for}
 use Rattle.pi_rewrite_spec.proofs.TermLemmas.{name-room, term-grows}
-use Rattle.pi_rewrite_laws.proofs.FineLemmas.{none-below, front-below, var-below, below-var, atom-below, items-below}
-use Rattle.pi_rewrite_laws.proofs.FineGoals.{term-below}
+use Rattle.pi_rewrite_laws.proofs.BelowLemmas.{none-below, front-below, var-below, below-var, atom-below, items-below}
+use Rattle.pi_rewrite_laws.proofs.SlotTerms.{term-below}
 use Rattle.pi_rewrite_sound.proofs.FineGoals.{Fine, AllFine, fine-none, fine-one, fine-append, fine-turn, fine-truth, fine-fail, fine-call, fine-apply, fine-collect, fine-count, fine-catch}
 use Rattle.pi_rewrite_sound.proofs.GivenNames.{equals-there, item-there, itself-there}
 use Rattle.pi_rewrite_sound.proofs.GoodHelpers.{Allows, has-first, has-last, GoodHelpers, no-helpers, both-helpers}
@@ -239,7 +239,3 @@ good-indexed {known = known} {ps = ps} no_indexes v is = subst (λ (xs : List Pr
 good-indexed {known = known} {ps = ps} (one_index qs rs i vs one rest) v is =
     subst (λ (xs : List PredTree). GoodValue known xs (λ ns. indexed_by (v ns) (i ∷ vs))) (append_assoc ps qs rs)
     (good-indexed rest (λ ns. indexed (v ns) i) (good-table index_name 2 (good-front is (good-alone one)) (λ ns. refl) item-there))
-
--- with the same helpers
-pub value-same : {known : Knows} {ps qs : List PredTree} {v : SlotNames → SlotValue} → ps ≡ qs → GoodValue known ps v → GoodValue known qs v
-value-same {known} {ps} {qs} {v} same is = subst (λ (xs : List PredTree). GoodValue known xs v) same is

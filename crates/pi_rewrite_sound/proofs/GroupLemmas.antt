@@ -6,7 +6,7 @@ use Rattle.std.proofs.lemmas.List.Elements.{All-nil, All-cons, All-head, All-tai
 use Rattle.std.proofs.lemmas.List.Kept.{AllPairs-cons}
 use Rattle.pi_core.specs.CoreTree.{ClauseTree, PredTree}
 use Rattle.pi_syntax.specs.Signature.{Signature}
-use Rattle.pi_rewrite_spec.specs.Lowered.{Lowering, grouped, grouped_all}
+use Rattle.pi_rewrite_spec.specs.Clauses.{Lowering, grouped, grouped_all}
 use Rattle.pi_rewrite_laws.specs.Within.{Key, GoesOn, StandTogether}
 use Rattle.pi_rewrite_laws.proofs.SoundLemmas.{nothing-in, cons-cases}
 use Rattle.pi_rewrite_laws.proofs.FindLemmas.{Modes, sign, of, key, matches, pred_of, matches-same, matches-itself, grouped-none, grouped-same, grouped-other, keys_of}

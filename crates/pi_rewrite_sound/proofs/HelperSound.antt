@@ -16,7 +16,7 @@ use Rattle.pi_meaning.specs.CoreMeaning.Defined.{ClauseCallsDefined, NamesAreFre
 use Rattle.pi_meaning.specs.CoreMeaning.Instances.{is_called_by_name}
 use Rattle.pi_rewrite_spec.specs.Forms.{Knows}
 use Rattle.pi_rewrite_spec.specs.Programs.{Naming}
-use Rattle.pi_rewrite_laws.specs.WithinLoops.{AreOwn}
+use Rattle.pi_rewrite_laws.specs.Within.{AreOwn}
 use Rattle.pi_rewrite_laws.proofs.SoundLemmas.{nothing-in, cons-cases}
 use Rattle.pi_rewrite_laws.proofs.NumberedLemmas.{IsHelper, NamedFrom}
 use Rattle.pi_rewrite_sound.specs.Laws.{IsPlain}
@@ -80,14 +80,6 @@ helper-index may p is lists at = absurd (let none : None ≡ Some lists = sym is
 
 pub no-guards : (may : Knows) (hs : List PredTree) → FineHelpers may hs → NoGuards hs
 no-guards may hs are p at c there = (clause-of may p.arity p.clauses (helper-of may hs are p at).clauses c there).guard
-
-plain-clauses : (may : Knows) (arity : ℕ) (cs : List ClauseTree) → FineClauses may arity cs → All (λ c. c.watches ≡ []) cs
-plain-clauses may arity [] are = All-nil (λ c. c.watches ≡ [])
-plain-clauses may arity (c ∷ cs) are = All-cons (λ c. c.watches ≡ []) c cs are.0.watches (plain-clauses may arity cs are.1)
-
-pub helpers-plain : (may : Knows) (hs : List PredTree) → FineHelpers may hs → All IsPlain hs
-helpers-plain may [] are = All-nil IsPlain
-helpers-plain may (p ∷ hs) are = All-cons IsPlain p hs (record { watches = plain-clauses may p.arity p.clauses are.0.clauses }) (helpers-plain may hs are.1)
 
 -- ---- their names
 

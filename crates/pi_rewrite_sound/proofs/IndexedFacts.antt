@@ -26,11 +26,6 @@ use Rattle.pi_rewrite_sound.proofs.ShownKeys.{is_key_of, not-prelude}
 
 -- ---- mode lists
 
-fact-alone : (c : WrittenClause) → is_kind_of_other (is_fact c) true ≡ false → is_fact c ≡ true
-fact-alone (rule r) h = absurd cc
-fact-alone (function f) h = absurd cc
-fact-alone (fact head) h = refl
-
 lengths : (k : ℕ) (lists : List (List Mode)) → list_any (λ modes. not (length modes == k)) lists ≡ false → All (λ modes. length modes ≡ k) lists
 lengths k [] h = All-nil (λ modes. length modes ≡ k)
 lengths k (modes ∷ lists) h =

@@ -19,7 +19,7 @@ use Rattle.pi_rewrite_spec.specs.Goals.{SlotGoals, in_turn}
 use Rattle.pi_rewrite_spec.specs.Loops.{slots_from, slots_head, closing, closing_slots, Loop}
 use Rattle.pi_rewrite_spec.specs.Iterators.{walk_slots, handed, turn_slots, end_slots, tick_then, element_helper, turn_helper}
 use Rattle.pi_rewrite_spec.specs.Ranges.{next_turn, range_helper, step_helper}
-use Rattle.pi_rewrite_laws.proofs.FineLemmas.{none-below, front-below, var-below}
+use Rattle.pi_rewrite_laws.proofs.BelowLemmas.{none-below, front-below, var-below}
 use Rattle.pi_rewrite_laws.proofs.SoundLemmas.{pattern-below}
 use Rattle.pi_rewrite_spec.proofs.EnteredLemmas.{values-long}
 use Rattle.pi_rewrite_laws.proofs.HelperLemmas.{AreAmong}

@@ -18,7 +18,7 @@ use Rattle.pi_rewrite_spec.specs.Iterators.{only, behind_collection, walked, ite
 use Rattle.pi_rewrite_spec.specs.Ranges.{SlotRange, low_of, step_of, high_of, range_of, number_goals, number_tree, counting, first_turn, behind_range, range_goals}
 use Rattle.pi_rewrite_spec.proofs.AgreeLemmas.{grows-length}
 use Rattle.pi_rewrite_spec.proofs.TermLemmas.{term-grows}
-use Rattle.pi_rewrite_laws.proofs.FineLemmas.{none-below, front-below, first-of, rest-of, var-below, atom-below}
+use Rattle.pi_rewrite_laws.proofs.BelowLemmas.{none-below, front-below, first-of, rest-of, var-below, atom-below}
 use Rattle.pi_rewrite_spec.proofs.EnteredLemmas.{values-long}
 use Rattle.pi_rewrite_laws.proofs.CollectionLemmas.{only-long}
 use Rattle.pi_rewrite_laws.proofs.HelperLemmas.{AreAmong}

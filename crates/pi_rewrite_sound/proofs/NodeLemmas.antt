@@ -8,15 +8,6 @@ use Rattle.pi_syntax.specs.declared.exp.Exp.{Exp}
 to-tree : (test : ExpTree → Bool) (x : Exp) (t : ExpTree) (b r : Bool) → test t ≡ b → exp_tree x ≡ t → r ≡ b → r ≡ test (exp_tree x)
 to-tree test x t b r opens tree is = is ∙ (sym opens ∙ ap test (sym tree))
 
--- over a name, and over what stands behind one
-pub of-name : (test : ExpTree → Bool) (named : List ℕ → Bool) (node : List ℕ → ExpTree) → ((n : List ℕ) → test (node n) ≡ named n) → (x : Exp) (name text : List ℕ) (r : Bool) → exp_tree x ≡ node name → text ≡ name → r ≡ named text → r ≡ test (exp_tree x)
-of-name test named node opens x name text r tree same is = to-tree test x (node name) (named name) r (opens name) tree (is ∙ ap named same)
-
-pub of-name-and : (test one : ExpTree → Bool) (named : List ℕ → Bool) (node : List ℕ → ExpTree → ExpTree) → ((n : List ℕ) (t : ExpTree) → test (node n t) ≡ (named n && one t)) → (x inner y : Exp) (name text : List ℕ) (r s : Bool) → exp_tree x ≡ node name (exp_tree inner) → text ≡ name → y ≡ inner → r ≡ named text → s ≡ one (exp_tree y) → (r && s) ≡ test (exp_tree x)
-of-name-and test one named node opens x inner y name text r s tree same behind is so =
-    to-tree test x (node name (exp_tree inner)) (named name && one (exp_tree inner)) (r && s) (opens name (exp_tree inner)) tree
-    (ap (λ b. b && s) (is ∙ ap named same) ∙ ap (λ b. named name && b) (so ∙ ap (λ z. one (exp_tree z)) behind))
-
 -- over a list
 pub of-list : {A X : Type 0} (shown : List A → X) (test : ExpTree → Bool) (all : X → Bool) (node : X → ExpTree) → ((ts : X) → test (node ts) ≡ all ts) → (x : Exp) (items now : List A) (r : Bool) → exp_tree x ≡ node (shown items) → now ≡ items → r ≡ all (shown now) → r ≡ test (exp_tree x)
 of-list shown test all node opens x items now r tree same is =

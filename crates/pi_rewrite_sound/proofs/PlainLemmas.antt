@@ -14,7 +14,7 @@ use Rattle.pi_meaning.specs.OverNames.Forms.{Form, negation, once, assignment, c
 use Rattle.pi_rewrite_spec.specs.Slots.{SlotNames}
 use Rattle.pi_rewrite_spec.specs.Values.{last_value}
 use Rattle.pi_rewrite_spec.specs.Goals.{SlotGoals}
-use Rattle.pi_rewrite_spec.specs.Lowered.{Lowering, lowered_fact, grouped_all}
+use Rattle.pi_rewrite_spec.specs.Clauses.{Lowering, lowered_fact, grouped_all}
 use Rattle.pi_rewrite_spec.specs.Sites.{Site, helpers_in, helpers_in_all, helpers_in_branches, behind_site, behind_exp, goal_sites, value_sites}
 use Rattle.pi_rewrite_spec.specs.Loops.{Ending, as_it_is, in_order, Loop}
 use Rattle.pi_rewrite_spec.specs.Comprehensions.{adding}

@@ -21,10 +21,8 @@ use Rattle.pi_effects.specs.BuiltIns.{reading_functions, tests, other_predicates
 use Rattle.pi_meaning.specs.Shared.Names.{later_predicates, is_later_predicate, is_later_function, is_given_predicate, is_given_function}
 use Rattle.pi_meaning.specs.OverNames.Forms.{form_of, readings}
 use Rattle.pi_meaning.specs.OverNames.Prelude.{cell, prelude}
-use Rattle.pi_rewrite_spec.specs.Forms.{Knows, IsPredicateCall, IsPattern}
-use Rattle.pi_rewrite_laws.specs.Within.{IsFree}
-use Rattle.pi_rewrite_laws.specs.WithLoops.{IsAssigned, IsExpression, AreExpressions, IsExpressionAt, IsGoalAt, IsGoal}
-use Rattle.pi_rewrite_laws.specs.WithinLoops.{IsPart}
+use Rattle.pi_rewrite_spec.specs.Forms.{Knows, IsPredicateCall, IsPattern, IsAssigned, IsExpression, AreExpressions, IsExpressionAt, IsGoalAt, IsGoal}
+use Rattle.pi_rewrite_laws.specs.Within.{IsFree, IsPart}
 use Rattle.pi_rewrite_laws.specs.Laws.{known_of}
 
 -- names that mean nothing else

@@ -1,10 +1,9 @@
 -- Soundness of programs, put together.
 use Rattle.std.proofs.Common.{◌≡◌, ◌⊎◌, inl, inr, ℕ, ◌+◌, Bool, true, false, if◌then◌else◌, List, [], ◌∷◌, ◌++◌, length, refl, sym, ◌∙◌, ap, subst, arith}
-use Rattle.std.proofs.lemmas.Bool.{false≢true, or_parts}
+use Rattle.std.proofs.lemmas.Bool.{false≢true, or_parts, or_left, or_right}
 use Rattle.std.specs.Prelude.{not, Option, Some, None, is_some, IsSome, IsTrue, All, AllPairs, Contains, slice_index_or}
 use Rattle.std.specs.Option.{option_or}
 use Rattle.std.specs.List.{cons_option}
-use Rattle.std.proofs.lemmas.Bool.{or_left, or_right}
 use Rattle.std.proofs.lemmas.List.Elements.{All-nil, All-cons, All-contains, Contains-append_cases, recursion_from_All}
 use Rattle.pi_core.specs.CoreTree.{ClauseTree, PredTree, index_of, find_pred}
 use Rattle.pi_syntax.specs.ExpTree.{ExpTree}
@@ -22,16 +21,15 @@ use Rattle.pi_meaning.specs.CoreMeaning.Instances.{is_called_by_name}
 use Rattle.pi_meaning.proofs.CoreMeaning.DefinedLemmas.{found-pred}
 use Rattle.pi_meaning.specs.OverNames.Prelude.{prelude}
 use Rattle.pi_rewrite_spec.specs.Forms.{Knows}
-use Rattle.pi_rewrite_spec.specs.Lowered.{named_by, Lowering, grouped_all}
+use Rattle.pi_rewrite_spec.specs.Clauses.{named_by, Lowering, grouped_all}
 use Rattle.pi_rewrite_spec.specs.Programs.{Naming, written_rule, rule_count, rule_helpers, written_function, function_count, function_helpers, clause_count, written_clause, clause_helpers, clauses_of, helpers_of, core_program}
-use Rattle.pi_rewrite_laws.specs.Within.{IsFree, AreModes, Key, StandTogether}
-use Rattle.pi_rewrite_laws.specs.WithinLoops.{IsClause, IsPart, AreQuiet}
+use Rattle.pi_rewrite_laws.specs.Within.{IsFree, AreModes, Key, StandTogether, IsClause, IsPart, AreQuiet}
 use Rattle.pi_rewrite_laws.specs.Laws.{known_of, DefinesTheSame}
 use Rattle.pi_rewrite_laws.proofs.FindLemmas.{Modes, sign, of, keys_of, pred_from, find-all}
 use Rattle.pi_rewrite_laws.proofs.NumberedLemmas.{NamedFrom}
 use Rattle.pi_rewrite_laws.proofs.OwnLemmas.{find-append, named-quiet}
 use Rattle.pi_rewrite_laws.proofs.TextPrograms.{Parts, program-numbered, keys-written}
-use Rattle.pi_rewrite_laws.proofs.TextLawLemmas.{programs-with-loops-are-kept}
+use Rattle.pi_rewrite_laws.proofs.LawLemmas.{programs-are-kept}
 use Rattle.pi_rewrite_sound.specs.Built.{is_built_clause, is_built, is_built_part, unbuilt_from, unbuilt_part}
 use Rattle.pi_rewrite_sound.specs.Within.{IsWithin}
 use Rattle.pi_rewrite_sound.specs.Laws.{AreNames, LoweredProgramsAreSound, LoweredProgramsAreClosed, clauses_named, pred_made, LoweredProgramsHaveClauses}
@@ -182,7 +180,7 @@ module _ (program : ProgramTree) (within : IsWithin program) (built : unbuilt_pa
 
   defines : DefinesTheSame program (whole_of program called)
   unfolding core_program
-  defines = (programs-with-loops-are-kept program within.forms called names.own).defines
+  defines = (programs-are-kept program within.forms called names.own).defines
 
   allows : Allows (known_of program) (found_in (whole_of program called))
   allows = program-allows program (whole_of program called) (λ name k is. some-called (find_pred false name k (whole_of program called)) (defines.predicates name k ∙ is)) (λ name k is. defines.functions name k ∙ is)

@@ -23,9 +23,8 @@ use Rattle.pi_rewrite_spec.specs.Goals.{in_turn}
 use Rattle.pi_rewrite_spec.specs.Written.{goal_of}
 use Rattle.pi_rewrite_spec.specs.Helpers.{goal_helpers}
 use Rattle.pi_rewrite_spec.specs.Programs.{Naming, query_site, core_query}
-use Rattle.pi_rewrite_laws.specs.WithinLoops.{IsAsked, AreQuiet}
-use Rattle.pi_rewrite_laws.specs.Laws.{known_of, DefinesTheSame}
-use Rattle.pi_rewrite_laws.specs.TextLaws.{AreNew}
+use Rattle.pi_rewrite_laws.specs.Within.{IsAsked, AreQuiet}
+use Rattle.pi_rewrite_laws.specs.Laws.{known_of, DefinesTheSame, AreNew}
 use Rattle.pi_rewrite_spec.proofs.AgreeLemmas.{grows-length}
 use Rattle.pi_rewrite_spec.proofs.TermLemmas.{name-room}
 use Rattle.pi_rewrite_laws.proofs.TellingLemmas.{behind-grows}

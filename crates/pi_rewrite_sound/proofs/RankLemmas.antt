@@ -9,7 +9,7 @@ use Rattle.pi_core.specs.CoreTree.{ClauseTree, PredTree, is_pred, find_pred}
 use Rattle.pi_meaning.specs.CoreMeaning.Quiet.{Callee, Reaches, ReachesFrom, IsQuiet, TicksBetween}
 use Rattle.pi_meaning.specs.CoreMeaning.Defined.{is_machine_predicate}
 use Rattle.pi_rewrite_spec.specs.Forms.{Knows}
-use Rattle.pi_rewrite_laws.specs.WithinLoops.{AreQuiet}
+use Rattle.pi_rewrite_laws.specs.Within.{AreQuiet}
 use Rattle.pi_rewrite_laws.proofs.OwnLemmas.{no-function}
 use Rattle.pi_rewrite_laws.proofs.SoundLemmas.{nothing-in, cons-cases}
 use Rattle.pi_rewrite_sound.proofs.GoodHelpers.{Allows, Has, AllBefore, ReachesBefore, Falls}

@@ -16,7 +16,7 @@ use Rattle.pi_rewrite_spec.specs.Iterators.{behind_collection}
 use Rattle.pi_rewrite_spec.proofs.AgreeLemmas.{text_itself, text_same, Grows, by, slot-below}
 use Rattle.pi_rewrite_spec.proofs.NewNameLemmas.{from_known}
 use Rattle.pi_rewrite_spec.proofs.TermLemmas.{terms-grow}
-use Rattle.pi_rewrite_laws.proofs.FineLemmas.{none-below, front-below, first-of, rest-of, var-below}
+use Rattle.pi_rewrite_laws.proofs.BelowLemmas.{none-below, front-below, first-of, rest-of, var-below}
 use Rattle.pi_rewrite_spec.proofs.EnteredLemmas.{among-slot, values-grow}
 use Rattle.pi_rewrite_laws.proofs.HelperLemmas.{AreAmong}
 use Rattle.pi_rewrite_laws.proofs.ElementLemmas.{unnamed-long}

@@ -7,7 +7,7 @@ use Rattle.pi_prog_clauses.specs.GoalVerdict.{a_goal, HasGoalVerdict}
 use Rattle.pi_prog_clauses.specs.Verdict.{a_program, HasVerdict}
 use Rattle.pi_rewrite_sound.specs.Built.{is_built_goal, unbuilt_part}
 use Rattle.pi_rewrite_sound.specs.Within.{IsWithin}
-use Rattle.pi_rewrite_laws.specs.WithinLoops.{IsAsked}
+use Rattle.pi_rewrite_laws.specs.Within.{IsAsked}
 
 -- a program without a fault, all of whose parts are built
 abbrev pub FaultlessProgramsAreWithin : Type 0

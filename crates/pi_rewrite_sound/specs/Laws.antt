@@ -9,11 +9,10 @@ use Rattle.pi_meaning.specs.OverNames.WrittenRules.{is_signature}
 use Rattle.pi_meaning.specs.CoreMeaning.Sound.{IsSound, IsSoundQuery}
 use Rattle.pi_meaning.specs.CoreMeaning.Defined.{ProgramCallsDefined, QueryCallsDefined, NamesAreFree}
 use Rattle.pi_meaning.specs.OverNames.Prelude.{prelude}
-use Rattle.pi_rewrite_spec.specs.Lowered.{Lowering, same_kind}
+use Rattle.pi_rewrite_spec.specs.Clauses.{Lowering, same_kind}
 use Rattle.pi_rewrite_spec.specs.Programs.{Naming, clauses_of, helpers_of, core_program, core_query}
-use Rattle.pi_rewrite_laws.specs.WithinLoops.{IsAsked, AreOwn}
-use Rattle.pi_rewrite_laws.specs.Laws.{known_of, DefinesTheSame}
-use Rattle.pi_rewrite_laws.specs.TextLaws.{AreNew}
+use Rattle.pi_rewrite_laws.specs.Within.{IsAsked, AreOwn}
+use Rattle.pi_rewrite_laws.specs.Laws.{known_of, DefinesTheSame, AreNew}
 use Rattle.pi_rewrite_sound.specs.Built.{unbuilt_part, is_built_goal}
 use Rattle.pi_rewrite_sound.specs.Within.{IsWithin}
 

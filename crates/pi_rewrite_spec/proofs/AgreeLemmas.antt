@@ -141,10 +141,6 @@ pub record Agrees (n : Room) (h : ℕ) (ns : SlotNames) (e : Environment) (slots
   -- those that stay
   pub fixed : (k : ℕ) (t : Option Tree) → n.fixed k ≡ Some t → Fixed k t ns slots
 
-unnamed-known : (b : Bool) (o : Option ℕ) (slots : Places) → option_and_then (held slots) (cond b None o) ≡ cond b None (option_and_then (held slots) o)
-unnamed-known true o slots = refl
-unnamed-known false o slots = refl
-
 -- an occurrence finds the same
 pub agrees-known : (n : Room) (h : ℕ) (ns : SlotNames) (e : Environment) (slots : Places) → Agrees n h ns e slots → (name : List ℕ) → known name e ≡ option_and_then (held slots) (slot_known name ns)
 agrees-known n h ns e slots a name = go (bytes_eq name unnamed) refl

@@ -18,7 +18,6 @@ use Rattle.pi_meaning.specs.OverNames.Control.{behind_all}
 use Rattle.pi_meaning.specs.OverNames.Forms.{plain}
 use Rattle.pi_meaning.specs.OverNames.Goals.{term_value, value_of, values_of}
 use Rattle.pi_rewrite_spec.specs.Values.{is_flat, are_flat}
-use Rattle.pi_rewrite_spec.specs.Forms.{Knows, IsTerm, AreTerms, IsExpression}
 use Rattle.pi_rewrite_spec.proofs.RunLemmas.{then-of-one}
 
 abbrev pub terms_value : Option ValuedAll → Trace ValuedAll
@@ -29,24 +28,6 @@ pub both : (a b : Bool) → a && b ≡ true → (a ≡ true) × (b ≡ true)
 both true true h = (refl, refl)
 both true false h = absurd (false≢true h)
 both false b h = absurd (false≢true h)
-
-mutual
-  unfolding is_flat IsTerm IsExpression
-
-  pub flat-term : (known : Knows) (e : ExpTree) → is_flat e ≡ true → IsExpression known e → IsTerm e
-  flat-term known (var name) flat is = tt
-  flat-term known (int n) flat is = tt
-  flat-term known (atom name) flat is = tt
-  flat-term known (str text) flat is = tt
-  flat-term known (list es) flat is = flat-terms known es flat is
-  flat-term known (list_onto es e) flat is = (flat-terms known es (both (are_flat es) (is_flat e) flat).0 is.0, flat-term known e (both (are_flat es) (is_flat e) flat).1 is.1)
-  flat-term known (array es) flat is = flat-terms known es flat is
-  flat-term known (quote e) flat is = is
-  flat-term known e flat is = absurd (false≢true flat)
-
-  pub flat-terms : (known : Knows) (es : ExpTrees) → are_flat es ≡ true → Rattle.pi_rewrite_spec.specs.Forms.AreExpressions known es → AreTerms es
-  flat-terms known no_exps flat is = tt
-  flat-terms known (exp e es) flat is = (flat-term known e (both (is_flat e) (are_flat es) flat).0 is.0, flat-terms known es (both (is_flat e) (are_flat es) flat).1 is.1)
 
 made-value : (make : Trees → Tree) (o : Option ValuedAll) → then (terms_value o) (λ all. one (made make all)) ≡ term_value (option_map (made make) o)
 unfolding then

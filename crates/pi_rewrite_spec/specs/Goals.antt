@@ -1,20 +1,15 @@
--- What goals and expressions are lowered to. Values of nested calls are made before the goal that uses them, from the left, inner first, each in a slot of its own. `h` is how
--- many slots the head of the rule fills. (Own.)
-use Rattle.std.specs.Prelude.{ℕ, zero, suc, ◌&&◌, Bool, false, cond, List, [], ◌∷◌, ◌++◌, length, Option, Some, None, codes}
+-- What each form of goal and expression is made of, over slots: of the goals and values of its parts, which `Written` puts together by the text. Values of nested calls are made before
+-- the goal that uses them, from the left, inner first, each in a slot of its own. (Own.)
+use Rattle.std.specs.Prelude.{ℕ, zero, suc, Bool, false, cond, List, [], ◌∷◌, ◌++◌, length, Option, Some, None, codes}
 use Rattle.std.specs.Str.{bytes_eq}
-use Rattle.pi_terms.specs.Tree.{Tree, comp}
-use Rattle.pi_terms.specs.ListNames.{nil}
-use Rattle.pi_syntax.specs.PrintTerm.{array_name}
+use Rattle.pi_terms.specs.Tree.{Tree}
 use Rattle.pi_effects.specs.Indexing.{index_name}
 use Rattle.pi_effects.specs.Inner.{itself_name}
-use Rattle.pi_syntax.specs.ExpTree.{ExpTree, var, int, atom, str, list, list_onto, array, call, quote, index, range, range_by, at, collect, and, or, arrow, if_then, if_else, foreach, while_do, do_while, ExpTrees, no_exps, exp, ExpBranches, no_branches, branch}
-use Rattle.pi_syntax.specs.Signature.{exp_count}
+use Rattle.pi_syntax.specs.ExpTree.{ExpTrees, no_exps, exp}
 use Rattle.pi_core.specs.GoalTree.{GoalTree, goals_of}
-use Rattle.pi_meaning.specs.OverNames.Terms.{items_onto}
-use Rattle.pi_meaning.specs.OverNames.Forms.{Form, negation, once, assignment, catch, by_term, membership, form_of, is_find_all, is_count_all}
-use Rattle.pi_meaning.specs.OverNames.Texts.{variable_first}
+use Rattle.pi_meaning.specs.OverNames.Forms.{Form, negation, once, assignment, catch, by_term, membership, is_find_all, is_count_all}
 use Rattle.pi_rewrite_spec.specs.Slots.{SlotNames, slot_for, slots_for, with_value}
-use Rattle.pi_rewrite_spec.specs.Values.{is_flat, are_flat, SlotValue, SlotValues, last_value, value_before, value_by, no_values, before_values, value_of_parts, value_onto, applied, Slotted, slotted}
+use Rattle.pi_rewrite_spec.specs.Values.{is_flat, SlotValue, SlotValues, no_values, before_values, applied, Slotted, slotted}
 
 -- ---- goals
 
@@ -174,95 +169,3 @@ one_branch g = record { branches = g.goals; names = g.names }
 abbrev pub branch_before : Option SlotArrow → (SlotNames → SlotGoals) → (SlotNames → SlotBranches) → SlotNames → SlotBranches
 branch_before None g others ns = in_front (g ns) others
 branch_before (Some a) g others ns = one_branch (choosing (a.test ns) a.body (λ ms. as_goals (others ms)))
-
-unfoldable mutual
-  -- an expression with a call in it
-  pub made : ℕ → ExpTree → SlotNames → SlotValue
-  made h (list es) ns = value_of_parts (λ ts. items_onto ts (Tree.atom nil)) (parts h es ns)
-  made h (list_onto es e) ns = value_onto (parts h es ns) (value_before h e (parts h es ns).names (made h e (parts h es ns).names))
-  made h (array es) ns = value_of_parts (comp array_name) (parts h es ns)
-  made h (call name es) ns = call_value name (exp_count es) (record { variable = variable_first es; goals = goals_in h es; values = values_in h es; all = arguments h es }) ns
-  made h (index e es) ns = indexed_by (value_by (begins_flat es) h e ns (made h e ns)) (values_in h es)
-  made h (range first last) ns = range_of_two (value_by (is_flat last) h first ns (made h first ns)) (λ ms. last_value last ms (made h last ms))
-  made h (range_by first step last) ns =
-      range_of_three (value_by (is_flat step && is_flat last) h first ns (made h first ns)) (λ ms. value_by (is_flat last) h step ms (made h step ms))
-      (λ ms. last_value last ms (made h last ms))
-  made h (var name) ns = no_value ns
-  made h (int n) ns = no_value ns
-  made h (atom name) ns = no_value ns
-  made h (str text) ns = no_value ns
-  made h (quote e) ns = no_value ns
-  made h (at name e) ns = no_value ns
-  made h (collect is_array e es) ns = no_value ns
-  made h (and es) ns = no_value ns
-  made h (or es) ns = no_value ns
-  made h (arrow c e) ns = no_value ns
-  made h (if_then bs) ns = no_value ns
-  made h (if_else bs e) ns = no_value ns
-  made h (foreach es e) ns = no_value ns
-  made h (while_do c e) ns = no_value ns
-  made h (do_while e c) ns = no_value ns
-
-  -- parts of a term, each evaluated before the term is used
-  pub parts : ℕ → ExpTrees → SlotNames → SlotValues
-  parts h no_exps ns = no_values ns
-  parts h (exp e es) ns = before_values (value_before h e ns (made h e ns)) (parts h es (value_before h e ns (made h e ns)).names)
-
-  -- arguments: those behind the last one with a call in it are evaluated by the call that uses them
-  pub arguments : ℕ → ExpTrees → SlotNames → SlotValues
-  arguments h no_exps ns = no_values ns
-  arguments h (exp e es) ns =
-      before_values (value_by (are_flat es) h e ns (made h e ns)) (arguments h es (value_by (are_flat es) h e ns (made h e ns)).names)
-
-  -- each by itself
-  pub values_in : ℕ → ExpTrees → List (SlotNames → SlotValue)
-  values_in h no_exps = []
-  values_in h (exp e es) = (λ ns. last_value e ns (made h e ns)) ∷ values_in h es
-
-  pub goals_in : ℕ → ExpTrees → List (SlotNames → SlotGoals)
-  goals_in h no_exps = []
-  goals_in h (exp e es) = goal_of h e ∷ goals_in h es
-
-  -- a goal
-  pub goal_of : ℕ → ExpTree → SlotNames → SlotGoals
-  goal_of h (atom name) ns = atom_goals name ns
-  goal_of h (call name es) ns = call_goals name (form_of name (exp_count es)) (record { variable = variable_first es; goals = goals_in h es; values = values_in h es; all = arguments h es }) ns
-  goal_of h (and es) ns = all_of h es ns
-  goal_of h (or es) ns = as_goals (any_of h es ns)
-  goal_of h (if_then bs) ns = branches_of h bs (λ ms. just GoalTree.truth ms) ns
-  goal_of h (if_else bs e) ns = branches_of h bs (goal_of h e) ns
-  goal_of h (var name) ns = never ns
-  goal_of h (int n) ns = never ns
-  goal_of h (str text) ns = never ns
-  goal_of h (list es) ns = never ns
-  goal_of h (list_onto es e) ns = never ns
-  goal_of h (array es) ns = never ns
-  goal_of h (quote e) ns = never ns
-  goal_of h (index e es) ns = never ns
-  goal_of h (range first last) ns = never ns
-  goal_of h (range_by first step last) ns = never ns
-  goal_of h (at name e) ns = never ns
-  goal_of h (collect is_array e es) ns = never ns
-  goal_of h (arrow c e) ns = never ns
-  goal_of h (foreach es e) ns = never ns
-  goal_of h (while_do c e) ns = never ns
-  goal_of h (do_while e c) ns = never ns
-
-  -- a conjunction
-  pub all_of : ℕ → ExpTrees → SlotNames → SlotGoals
-  all_of h no_exps ns = record { goals = []; names = ns }
-  all_of h (exp e es) ns = joined (goal_of h e ns) (all_of h es (goal_of h e ns).names)
-
-  -- a disjunction
-  pub any_of : ℕ → ExpTrees → SlotNames → SlotBranches
-  any_of h no_exps ns = record { branches = []; names = ns }
-  any_of h (exp e es) ns = branch_before (arrow_in h e) (goal_of h e) (any_of h es) ns
-
-  pub arrow_in : ℕ → ExpTree → Option SlotArrow
-  arrow_in h (arrow c e) = Some (record { test = goal_of h c; body = goal_of h e })
-  arrow_in h e = None
-
-  -- conditions with their bodies, and what is done where none holds
-  pub branches_of : ℕ → ExpBranches → (SlotNames → SlotGoals) → SlotNames → SlotGoals
-  branches_of h no_branches other ns = other ns
-  branches_of h (branch c e bs) other ns = choosing (goal_of h c ns) (goal_of h e) (branches_of h bs other)

@@ -8,6 +8,6 @@ pub mod Ranges
 pub mod Comprehensions
 pub mod Written
 pub mod Helpers
-pub mod Lowered
+pub mod Clauses
 pub mod Programs
 pub mod Forms

@@ -16,7 +16,7 @@ use Rattle.pi_rewrite_spec.specs.Goals.{SlotGoals, in_turn}
 use Rattle.pi_rewrite_spec.specs.Sites.{Site, helpers_in, behind_site}
 use Rattle.pi_rewrite_spec.specs.Written.{made, goal_of}
 use Rattle.pi_rewrite_spec.specs.Helpers.{value_helpers, goal_helpers}
-use Rattle.pi_rewrite_spec.specs.Lowered.{head_forms, head_slots, rule_with, function_with, lowered_fact, named_by, Lowering, grouped_all}
+use Rattle.pi_rewrite_spec.specs.Clauses.{head_forms, head_slots, rule_with, function_with, lowered_fact, named_by, Lowering, grouped_all}
 
 -- what helpers are called, by their numbers
 abbrev pub Naming : Type 0

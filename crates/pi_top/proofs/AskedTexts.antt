@@ -4,7 +4,7 @@ use Rattle.pi_core.specs.CoreTree.{PredTree, QueryTree}
 use Rattle.pi_lex.specs.Kinds.{kinds}
 use Rattle.pi_syntax.specs.ExpTree.{ExpTree}
 use Rattle.pi_syntax.specs.ProgramTree.{ProgramTree}
-use Rattle.pi_rewrite_laws.specs.WithinLoops as loops
+use Rattle.pi_rewrite_laws.specs.Within as loops
 use Rattle.pi_rewrite_sound.specs.Within as within
 use Rattle.pi_rewrite_sound.specs.Built.{unbuilt_part, unbuilt_goal, is_built_goal}
 use Rattle.pi_rewrite_sound.proofs.FaultlessGoals.{faultless-goals-are-asked}

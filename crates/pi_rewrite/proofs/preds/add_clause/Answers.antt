@@ -3,7 +3,7 @@ use Rattle.std.proofs.Common.{◌≡◌, ◌∙◌, sym, []}
 use Rattle.std.specs.Prelude.{option_copied}
 use Rattle.std.proofs.lemmas.Result.{IfOk-weaker}
 use Rattle.pi_core.specs.CoreTree.{clause_tree}
-use Rattle.pi_rewrite_spec.specs.Lowered.{Lowering}
+use Rattle.pi_rewrite_spec.specs.Clauses.{Lowering}
 use Rattle.pi_rewrite.proofs.GroupLemmas.{no-items, adds-first, adds-same, adds-other}
 use Rattle.pi_rewrite.proofs.preds.add_clause.Goals as goal
 

@@ -3,7 +3,7 @@ use Rattle.std.proofs.Common.{◌≡◌, ℕ, List, sym, ◌∙◌, ap}
 use Rattle.pi_syntax.specs.Signature.{Signature, signature, exp_count}
 use Rattle.pi_syntax.specs.ExpLists.{exps_of}
 use Rattle.pi_syntax.proofs.ExpListLemmas.{exp_count-exps_of}
-use Rattle.pi_rewrite_spec.specs.Lowered.{named_by}
+use Rattle.pi_rewrite_spec.specs.Clauses.{named_by}
 use Rattle.pi_rewrite_slots.proofs.ExpTrees.{call-is}
 use Rattle.pi_rewrite.proofs.preds.signature.Goals as goal
 
