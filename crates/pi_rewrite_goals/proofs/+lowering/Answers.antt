@@ -1,10 +1,10 @@
 -- Each kind of goal and expression by its lemma.
 use Rattle.std.specs.Prelude.{◌&&◌, Some, map}
-use Rattle.std.proofs.Common.{◌≡◌, ◌+◌, [], ◌++◌, length, drop, refl, sym, ◌∙◌, ap, arith, rules, get_or, subst}
+use Rattle.std.proofs.Common.{◌≡◌, ◌+◌, [], ◌++◌, length, drop, refl, sym, ◌∙◌, ap, arith, rules}
 use Rattle.std.proofs.lemmas.Result.{IfOk-weaker}
 use Rattle.pi_core.specs.GoalTree.{GoalTree}
 use Rattle.pi_core.specs.CoreTree.{pred_tree}
-use Rattle.pi_syntax.specs.ExpTree.{exp_tree, ExpTree, ExpTrees, call, exp}
+use Rattle.pi_syntax.specs.ExpTree.{exp_tree}
 use Rattle.pi_syntax.specs.ExpLists.{exps_of}
 use Rattle.pi_syntax.specs.declared.exp.Exp as e
 use Rattle.pi_meaning.specs.OverNames.Texts.{places, places_all, places_of_branches}
@@ -13,14 +13,14 @@ use Rattle.pi_meaning.specs.OverNames.Forms.{form_of}
 use Rattle.pi_rewrite_spec.specs.Goals.{begins_flat, either_of, indexed_by}
 use Rattle.pi_rewrite_spec.specs.Sites.{helpers_in_all, helpers_in_branches, behind_site, behind_exp, inside}
 use Rattle.pi_rewrite_spec.specs.Written.{made, goal_of, all_of}
-use Rattle.pi_rewrite_spec.specs.Helpers.{value_helpers, all_helpers, goal_helpers, conjunct_helpers, branch_helpers, collection_helpers}
+use Rattle.pi_rewrite_spec.specs.Helpers.{value_helpers, all_helpers, goal_helpers, conjunct_helpers, branch_helpers}
 use Rattle.pi_rewrite_slots.specs.Branches.{branches_in}
 use Rattle.pi_rewrite_sites.specs.SiteOf.{site_of}
 use Rattle.pi_rewrite_slots.specs.Indexed.{names_in}
 use Rattle.pi_rewrite_loops.specs.Helpers.{loop_of, ending_of}
 use Rattle.pi_rewrite_goals.proofs.LoopLemmas.{while-whole, do-whole}
 use Rattle.pi_rewrite_sites.proofs.NowTrees.{foreach-now, collect-now, while-now, do-now, atom-now, onto-now, list-now, array-now, call-now, index-now, range-now, range_by-now, and-now, or-now, arrow-now, if_then-now, if_else-now}
-use Rattle.pi_rewrite_goals.specs.Lowering.{value_of, call_as_goal, call_as_value, call_goal_helpers, call_value_helpers, values_of, With}
+use Rattle.pi_rewrite_goals.specs.Lowering.{value_of, call_as_goal, call_as_value, call_goal_helpers, call_value_helpers, values_of}
 use Rattle.pi_rewrite_goals.specs.Calls.{HasCount, IsForm, assigned_to, atom_tree}
 use Rattle.pi_rewrite_goals.specs.Joined.{closed}
 use Rattle.pi_rewrite_goals.specs.declared.calls.CallForm.TheVariants.{Catch}
@@ -36,9 +36,14 @@ use Rattle.pi_rewrite_goals.proofs.NeverLemmas.{never-var, never-int, never-str,
 use Rattle.pi_rewrite_goals.proofs.AssignLemmas.{assigned-call, assigned-value}
 use Rattle.pi_rewrite_goals.proofs.BranchLemmas.{no-arrow, arrow-branch, goal-branch, branches-none, branches-more, branches-end, conditions-none, conditions-more, conditions-end}
 use Rattle.pi_rewrite_goals.proofs.MadeLemmas.{put-made_onto, put-made_list, put-made_array, made-call, put-made_index, put-made_range, put-made_range_by, flip-and, no_value-as, none-var, none-int, none-atom, none-str, none-quote, none-at, none-and, none-or, none-arrow, none-if, none-foreach, none-while, none-do_while, bare-var, bare-int, bare-atom, bare-str, bare-quote, bare-at, bare-and, bare-or, bare-arrow, bare-if, bare-foreach, bare-while, bare-do_while, put-call_found, put-call_counted, put-call_applied}
-use Rattle.pi_rewrite_goals.specs.Planned.{inner_in, IsOver}
+use Rattle.pi_rewrite_goals.specs.Planned.{inner_in}
 use Rattle.pi_rewrite_goals.proofs.OpenLemmas.{none-open}
 use Rattle.pi_rewrite_goals.proofs.UnitLemmas.{opens-test, opens-iterator, units-more, units-end, foreach-whole, collect-whole}
+use Rattle.std.proofs.Common.{get_or, subst}
+use Rattle.pi_syntax.specs.ExpTree.{ExpTree, ExpTrees, call, exp}
+use Rattle.pi_rewrite_spec.specs.Helpers.{collection_helpers}
+use Rattle.pi_rewrite_goals.specs.Lowering.{With}
+use Rattle.pi_rewrite_goals.specs.Planned.{IsOver}
 use Rattle.pi_rewrite_goals.specs.declared.gone_over.Over.{Over}
 use Rattle.pi_rewrite_goals.proofs.OverLemmas.{not-range, over-collection, over-range, collection-found, two-found, three-found, collection-helped}
 use Rattle.pi_rewrite_goals.proofs.ArgumentLemmas.{GoesOverNone, none-found, no-call, not-call, few-arguments, two-first}
