@@ -19,7 +19,7 @@ use Rattle.pi_meaning.specs.Shared.Level.{Level, Point}
 use Rattle.pi_meaning.specs.Shared.Within.{is_body}
 use Rattle.pi_meaning.specs.Shared.Builtin.{written, effect_trace, settled_effect, function_trace}
 use Rattle.pi_meaning.specs.CoreMeaning.Meaning.{Action, with_slot, draining, strictly, succeeding, collecting, counting, meaning, meaning_of_any}
-use Rattle.pi_meaning.specs.CoreMeaning.Rules.{guarded, chosen_rule, rule_before, rules, value_at}
+use Rattle.pi_meaning.specs.CoreMeaning.Rules.{guarded, chosen_rule, rule_before, rules, value_at, rule_by}
 use Rattle.pi_meaning.proofs.Traces.TraceLemmas.{then-alt, alt-done}
 use Rattle.pi_meaning.specs.Machine.Configuration.{Frame, more, return, give, Back, Called, Strict, guard_level, list_level, number_level, Entry, strict, catch_level, Config, config, behind, after_body}
 use Rattle.pi_meaning.specs.Machine.Remaining.{point, valued, continued, run_from, start_of, body_of, rules_trace, choice_trace, level_trace, catch_trace, around, now_trace}
@@ -127,7 +127,7 @@ guarding-is given l g called c cs b es e = guard-begins given l g called c cs b 
 
 rule-tried : (given : Builtins) (l : Level) (called : Called) (c : ClauseTree) (cs : List ClauseTree) (b : Back) (es : List Entry) (e : Option Places) →
     Is given l es (rules_trace given l called cs b) (try_rules called cs b es) →
-    Is given l es (rule_before given l c (leaves_others called.function c) (body_of given l called b c) b.state (rules_trace given l called cs b) e) (tried (trial called c cs b es) e (try_rules called cs b es))
+    Is given l es (rule_before given l (rule_by c (leaves_others called.function c) (body_of given l called b c)) b.state (rules_trace given l called cs b) e) (tried (trial called c cs b es) e (try_rules called cs b es))
 rule-tried given l called c cs b es None r = r
 rule-tried given l called c cs b es (Some e) r = guarding-is given l c.guard called c cs b es e
 
@@ -135,7 +135,7 @@ pub rules-tried : (given : Builtins) (l : Level) (called : Called) (cs : List Cl
 unfolding rules_trace rules try_rules now_trace
 rules-tried given l called [] b es = refl
 rules-tried given l called (c ∷ cs) b es =
-    ap (λ t. around given l es (rule_before given l c (leaves_others called.function c) (body_of given l called b c) b.state t (matched_all_in (bindings b.state) c.head called.args (replicate c.slots None))) [])
+    ap (λ t. around given l es (rule_before given l (rule_by c (leaves_others called.function c) (body_of given l called b c)) b.state t (matched_all_in (bindings b.state) c.head called.args (replicate c.slots None))) [])
     (rules-anywhere given l (λ d. leaves_others called.function d) (λ d p. body_of given l called b d p) 1 0 cs called.args b.state)
     ∙ rule-tried given l called c cs b es (matched_all_in (bindings b.state) c.head called.args (replicate c.slots None)) (rules-tried given l called cs b es)
 
