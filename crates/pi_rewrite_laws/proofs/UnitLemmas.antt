@@ -19,7 +19,7 @@ use Rattle.pi_rewrite_spec.specs.Iterators.{tested, turn_helper, element_helper}
 use Rattle.pi_rewrite_spec.specs.Written as written
 use Rattle.pi_rewrite_spec.specs.Written.{Inner, start_loop, iterator_loop, turn_name, is_range, gone_over, elements_of, turns_of, unit_goals, started_goals}
 use Rattle.pi_rewrite_spec.specs.Ranges.{range_goals, range_helper, step_helper}
-use Rattle.pi_rewrite_spec.specs.Helpers.{own_helpers, iterated_helpers, unit_helpers, started_helpers}
+use Rattle.pi_rewrite_spec.specs.Helpers.{own_helpers, iterated_helpers, unit_helpers, started_helpers, iterator_text}
 use Rattle.pi_rewrite_spec.proofs.RunLemmas.{SameGoals, SameLast, SameArguments}
 use Rattle.pi_rewrite_laws.proofs.HelperLemmas.{AreAmong}
 use Rattle.pi_rewrite_spec.proofs.EndLemmas.{finish_of}
@@ -68,10 +68,10 @@ pub data Collected (c : Fixture) (w : Here c) (s : Site) (u : ExpTree) : Bool �
 iterator-unit : (c : Fixture) (each : AlikeUpTo c) (w : Here c) (s : Site) (ending : Ending) (i : Inner) (u : ExpTree) (us : ExpTrees) (e : ExpTree) → iterated u ≡ Some e → IsPattern e → Within i.assigned i.used → (nbody : Names → Goal) (lbody : Site → SlotNames → SlotGoals)
     (helpers : Site → Ending → List PredTree) (over : List PredTree) → Collected c w s u (is_range u) → RestAt c i us nbody lbody helpers →
     Stands c w s ((helpers_in u + (helpers_in_units us + 2)) + i.count)
-    (iterated_helpers s ending i u us e over (helpers (elements_of s (iterator_loop s ending i u us e) u e) as_it_is) (written.units (elements_of s (iterator_loop s ending i u us e) u e) as_it_is i us lbody)) →
+    (iterated_helpers (iterator_text s ending i u us e) over (helpers (elements_of s (iterator_loop s ending i u us e) u e) as_it_is) (written.units (elements_of s (iterator_loop s ending i u us e) u e) as_it_is i us lbody)) →
     SameGoals c.builtins (slots_level c w) (names_level c w) s.filled (over_names.iterating (over_names.names_around (finish_of ending) s.before (names_inside s.before (Some e) (occurring_all us ++ i.used)) (kept_names s.before (exp u us) i.assigned)) e (collection_of c.set.calls s.before u)
     (units_of c.set.calls over_names.as_it_is (behind (names_inside s.before (Some e) (occurring_all us ++ i.used)) (places e)) i.assigned i.used us nbody))
-    (λ ms. gone_over (is_range u) s.filled s.before (iterator_loop s ending i u us e) (written.bounds_of s u) (written.collection_of s u) ms)
+    (λ ms. gone_over (is_range u) s (iterator_loop s ending i u us e) (written.bounds_of s u) (written.collection_of s u) ms)
 iterator-unit c each w s ending i u us e is pattern within nbody lbody helpers over collection rest st = go (is_range u) collection (have-last c ps (own (is_range u)) (have-last c over (ps ++ own (is_range u)) st.has))
   where
     used : Names
@@ -116,7 +116,7 @@ iterator-unit c each w s ending i u us e is pattern within nbody lbody helpers o
 
     go : (r : Bool) → Collected c w s u r → HaveHelpers c (own r) →
         SameGoals c.builtins (slots_level c w) (names_level c w) s.filled (over_names.iterating (over_names.names_around (finish_of ending) s.before (names_inside s.before (Some e) (occurring_all us ++ i.used)) (kept_names s.before (exp u us) i.assigned)) e (collection_of c.set.calls s.before u) body)
-        (λ ms. gone_over r s.filled s.before (iterator_loop s ending i u us e) (written.bounds_of s u) (written.collection_of s u) ms)
+        (λ ms. gone_over r s (iterator_loop s ending i u us e) (written.bounds_of s u) (written.collection_of s u) ms)
     go false (by_value collected) two =
         iterator-same c.known c.set.calls c.builtins (slots_level c w) (names_level c w) s.filled (alike-here c each w) loop turn s.before e pattern (collection_of c.set.calls s.before u) (written.collection_of s u) collected body lb (inside-among s.before (Some e) used st.named) (kept-before s.before (exp u us) i.assigned) among
         (pattern-apart loop s.before e used refl)
@@ -134,11 +134,11 @@ pub unit-same : (c : Fixture) (each : AlikeUpTo c) (w : Here c) (s : Site) (endi
     (helpers : Site → Ending → List PredTree) (over test : List PredTree) → (collected → Stands c w s (helpers_in u) over → Collected c w s u (is_range u)) →
     (tests → Stands c w s (helpers_in u) test → SameGoals c.builtins (slots_level c w) (names_level c w) s.filled (goal_of c.set.calls s.before u) (written.goal_of s u)) → RestAt c i us nbody lbody helpers → (o : Option ExpTree) → iterated u ≡ o → IsUnit o collected tests →
     Stands c w s ((helpers_in u + (helpers_in_units us + iterator_helpers o)) + i.count)
-    (unit_helpers o (λ e. iterated_helpers s ending i u us e over (helpers (elements_of s (iterator_loop s ending i u us e) u e) as_it_is) (written.units (elements_of s (iterator_loop s ending i u us e) u e) as_it_is i us lbody))
+    (unit_helpers o (λ e. iterated_helpers (iterator_text s ending i u us e) over (helpers (elements_of s (iterator_loop s ending i u us e) u e) as_it_is) (written.units (elements_of s (iterator_loop s ending i u us e) u e) as_it_is i us lbody))
     (test ++ helpers (behind_exp s u) as_it_is)) →
     SameGoals c.builtins (slots_level c w) (names_level c w) s.filled (over_names.unit (over_names.names_around (finish_of ending) s.before (names_inside s.before o (occurring_all us ++ i.used)) (kept_names s.before (exp u us) i.assigned)) o (collection_of c.set.calls s.before u) (goal_of c.set.calls s.before u)
     (units_of c.set.calls over_names.as_it_is (behind (names_inside s.before o (occurring_all us ++ i.used)) (unit_places o u)) i.assigned i.used us nbody))
-    (unit_goals o (λ e ms. gone_over (is_range u) s.filled s.before (iterator_loop s ending i u us e) (written.bounds_of s u) (written.collection_of s u) ms) (λ ms. tested (written.goal_of s u ms) (written.units (behind_exp s u) as_it_is i us lbody)))
+    (unit_goals o (λ e ms. gone_over (is_range u) s (iterator_loop s ending i u us e) (written.bounds_of s u) (written.collection_of s u) ms) (λ ms. tested (written.goal_of s u ms) (written.units (behind_exp s u) as_it_is i us lbody)))
 unit-same c each w s ending i u us collected tests within nbody lbody helpers over test collection condition rest None is fits st =
     tested-goals c.known c.set.calls c.builtins (slots_level c w) (names_level c w) s.filled (goal_of c.set.calls s.before u) (units_of c.set.calls over_names.as_it_is (behind s.before (places u)) i.assigned i.used us nbody) (written.goal_of s u) (written.units (behind_exp s u) as_it_is i us lbody)
     (alike-here c each w)
