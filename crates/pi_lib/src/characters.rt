@@ -4,7 +4,7 @@ ghost use Rattle.std.specs.Str.{chars, bytes_eq};
 ghost use Rattle.pi_terms.specs.Tree.{Tree};
 ghost use Rattle.pi_terms.specs.ListNames.{nil, cell_name};
 ghost use Rattle.pi_terms.specs.ListCopies.{list_cell};
-ghost use Rattle.pi_constraints.specs.Value.{IsAcyclic, value};
+ghost use Rattle.pi_constraints.specs.Value.{value};
 ghost use Rattle.pi_constraints.specs.State.{bindings};
 ghost use Rattle.pi_constraints.specs.Store.{IsTerm, IsName};
 ghost use Rattle.pi_unify.specs.Terms.{IsGiven, HoldsNoCycle, value_of};
@@ -44,7 +44,7 @@ pub fn text_argument<S: StateStore>(
     term: Ref,
     format: Ref,
 ) -> Result<Text, Stop>
-    ensures { (t u : Tree) → IsAcyclic (bindings (S.seen s.now).now.state) → IsTerm (S.seen s.now) term t →
+    ensures { (t u : Tree) → HoldsNoCycle (S.seen s.now) → IsTerm (S.seen s.now) term t →
         IsTerm (S.seen s.now) format u → ShowsSame (S.seen s.now) result
         (argument_text a_text (bad_format u (S.seen s.now).now.state) (value (bindings (S.seen s.now).now.state) t)) }
 {

@@ -1,9 +1,8 @@
 //! Calls of functions of lists and arrays.
 ghost use Rattle.std.specs.Prelude.{◌≡◌, Some};
 ghost use Rattle.pi_terms.specs.Tree.{Tree, no_trees, tree};
-ghost use Rattle.pi_constraints.specs.Value.{IsAcyclic};
-ghost use Rattle.pi_constraints.specs.State.{bindings};
 ghost use Rattle.pi_constraints.specs.Store.{IsTerm, Stays};
+ghost use Rattle.pi_unify.specs.Terms.{HoldsNoCycle};
 ghost use Rattle.pi_effects.specs.Effect.{FunctionEffect};
 ghost use Rattle.pi_effects.specs.BuiltIns.{built_in_function};
 ghost use Rattle.pi_effects.specs.Results.{ShowsEffect};
@@ -26,7 +25,7 @@ pub fn call_of_collection<S: StateStore>(
     a: Ref,
 ) -> Result<Ref, Stop>
     ensures stays { Stays (S.seen s.old) (S.seen s.new) }
-    ensures shows { (t : Tree) (e : FunctionEffect) → IsAcyclic (bindings (S.seen s.old).now.state) → IsTerm (S.seen s.old) a t →
+    ensures shows { (t : Tree) (e : FunctionEffect) → HoldsNoCycle (S.seen s.old) → IsTerm (S.seen s.old) a t →
         built_in_function (collection_name function) (tree t no_trees) (S.seen s.old).now.state ≡ Some e →
         ShowsEffect (S.seen s.old) (S.seen s.new) result e }
 {

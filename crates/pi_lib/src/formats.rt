@@ -2,15 +2,16 @@
 ghost use Rattle.std.specs.Prelude.{◌≡◌, ◌≢◌, ◌≤◌, ◌∷◌, List, false, option_copied, IfOk};
 ghost use Rattle.std.specs.String.{string_bytes};
 ghost use Rattle.pi_terms.specs.Tree.{Tree, Trees};
-ghost use Rattle.pi_constraints.specs.Value.{IsAcyclic, value};
+ghost use Rattle.pi_constraints.specs.Value.{value};
 ghost use Rattle.pi_constraints.specs.State.{bindings};
 ghost use Rattle.pi_constraints.specs.Store.{IsTerm, AreTerms};
+ghost use Rattle.pi_unify.specs.Terms.{HoldsNoCycle};
 ghost use Rattle.pi_effects.specs.Exception.{bad_format};
 ghost use Rattle.pi_effects.specs.Items.{each_tree};
 ghost use Rattle.pi_effects.specs.Format as spec;
 ghost use Rattle.pi_effects.specs.Results.{ShowsSame};
 ghost use Rattle.pi_lib.specs.Signs.{form_of, piece_of};
-ghost use Rattle.pi_lib.specs.Filling.{IsNext, how_many, FillsPiece};
+ghost use Rattle.pi_lib.specs.Filling.{IsNext, how_many, FillsPiece, gap};
 
 use crate::characters::text_argument;
 use crate::signs::{Form, Sign, sign_behind};
@@ -25,7 +26,7 @@ use std::alloc::Global;
 /// argument or with one of another kind, an argument behind the last sign raise `bad_format`, a term past 16,777,216 cells
 /// `term_too_large`. A User's Guide to Picat, 'Input and Output'; which signs there are, and what is raised, is own.
 pub fn printf<S: StateStore>(alloc: Global, s: &S, format: Ref, args: &[Ref]) -> Result<Text, Stop>
-    ensures { (t : Tree) (ts : Trees) → IsAcyclic (bindings (S.seen s.now).now.state) → IsTerm (S.seen s.now) format t →
+    ensures { (t : Tree) (ts : Trees) → HoldsNoCycle (S.seen s.now) → IsTerm (S.seen s.now) format t →
         AreTerms (S.seen s.now) args.now ts → ShowsSame (S.seen s.now) result
         (spec.formatted (S.seen s.now).now.state t (each_tree ts)) }
 {
@@ -41,7 +42,7 @@ fn fill<S: StateStore>(
     text: &str,
     args: &[Ref],
 ) -> Result<Text, Stop>
-    ensures { (t : Tree) (ts : Trees) → IsAcyclic (bindings (S.seen s.now).now.state) → IsTerm (S.seen s.now) format t →
+    ensures { (t : Tree) (ts : Trees) → HoldsNoCycle (S.seen s.now) → IsTerm (S.seen s.now) format t →
         AreTerms (S.seen s.now) args.now ts → ShowsSame (S.seen s.now) result
         (spec.filled_in (S.seen s.now).now.state (bad_format t (S.seen s.now).now.state) (spec.pieces text.now false)
         (each_tree ts)) }
@@ -75,9 +76,9 @@ fn write_sign<S: StateStore>(
 ) -> Result<usize, Stop>
     ensures known { IfOk result (λ _. piece_of sign ≢ spec.no_sign) }
     ensures few { IfOk result (λ n. n ≤ how_many argument.entry) }
-    ensures fills { (t : Tree) (us : List Tree) → IsAcyclic (bindings (S.seen s.now).now.state) → IsTerm (S.seen s.now) format t →
+    ensures fills { (t : Tree) (us : List Tree) → HoldsNoCycle (S.seen s.now) → IsTerm (S.seen s.now) format t →
         IsNext (S.seen s.now) (option_copied argument.entry) us →
-        FillsPiece (S.seen s.now) (bad_format t (S.seen s.now).now.state) (piece_of sign) us (string_bytes out.old)
+        FillsPiece (S.seen s.now) (gap (bad_format t (S.seen s.now).now.state) (piece_of sign) us) (string_bytes out.old)
         (string_bytes out.new) result }
 {
     match sign {
@@ -109,7 +110,7 @@ fn argument_text<S: StateStore>(
     form: Form,
     argument: Ref,
 ) -> Result<Text, Stop>
-    ensures { (t u : Tree) → IsAcyclic (bindings (S.seen s.now).now.state) → IsTerm (S.seen s.now) argument t →
+    ensures { (t u : Tree) → HoldsNoCycle (S.seen s.now) → IsTerm (S.seen s.now) argument t →
         IsTerm (S.seen s.now) format u → ShowsSame (S.seen s.now) result
         (spec.argument_text (form_of form) (bad_format u (S.seen s.now).now.state) (value (bindings (S.seen s.now).now.state) t)) }
 {
@@ -127,7 +128,7 @@ fn integer_text<S: StateStore>(
     argument: Ref,
     format: Ref,
 ) -> Result<Text, Stop>
-    ensures { (t u : Tree) → IsAcyclic (bindings (S.seen s.now).now.state) → IsTerm (S.seen s.now) argument t →
+    ensures { (t u : Tree) → HoldsNoCycle (S.seen s.now) → IsTerm (S.seen s.now) argument t →
         IsTerm (S.seen s.now) format u → ShowsSame (S.seen s.now) result
         (spec.argument_text spec.an_integer (bad_format u (S.seen s.now).now.state) (value (bindings (S.seen s.now).now.state) t)) }
 {

@@ -1,9 +1,8 @@
 //! Calls of built-in functions.
 ghost use Rattle.std.specs.Prelude.{◌≡◌, Some, length};
 ghost use Rattle.pi_terms.specs.Tree.{Tree, Trees, no_trees, tree};
-ghost use Rattle.pi_constraints.specs.Value.{IsAcyclic};
-ghost use Rattle.pi_constraints.specs.State.{bindings};
 ghost use Rattle.pi_constraints.specs.Store.{IsTerm, AreTerms, Keeps};
+ghost use Rattle.pi_unify.specs.Terms.{HoldsNoCycle};
 ghost use Rattle.pi_effects.specs.Effect.{FunctionEffect};
 ghost use Rattle.pi_effects.specs.BuiltIns.{built_in_function};
 ghost use Rattle.pi_effects.specs.Results.{ShowsEffect};
@@ -34,7 +33,7 @@ pub fn call_function<S: StateStore>(
     args: &[Ref],
 ) -> Result<Ref, Stop>
     ensures keeps { Keeps (S.seen s.old) (S.seen s.new) }
-    ensures shows { (ts : Trees) (e : FunctionEffect) → IsAcyclic (bindings (S.seen s.old).now.state) →
+    ensures shows { (ts : Trees) (e : FunctionEffect) → HoldsNoCycle (S.seen s.old) →
         AreTerms (S.seen s.old) args.now ts → length args.now ≡ function_arity function →
         built_in_function (function_name function) ts (S.seen s.old).now.state ≡ Some e →
         ShowsEffect (S.seen s.old) (S.seen s.new) result e }
@@ -63,7 +62,7 @@ fn call_of_one<S: StateStore>(
     a: Ref,
 ) -> Result<Ref, Stop>
     ensures keeps { Keeps (S.seen s.old) (S.seen s.new) }
-    ensures shows { (t : Tree) (e : FunctionEffect) → IsAcyclic (bindings (S.seen s.old).now.state) → IsTerm (S.seen s.old) a t →
+    ensures shows { (t : Tree) (e : FunctionEffect) → HoldsNoCycle (S.seen s.old) → IsTerm (S.seen s.old) a t →
         built_in_function (one_name function) (tree t no_trees) (S.seen s.old).now.state ≡ Some e →
         ShowsEffect (S.seen s.old) (S.seen s.new) result e }
 {
@@ -94,7 +93,7 @@ fn call_of_two<S: StateStore>(
     b: Ref,
 ) -> Result<Ref, Stop>
     ensures keeps { Keeps (S.seen s.old) (S.seen s.new) }
-    ensures shows { (t u : Tree) (e : FunctionEffect) → IsAcyclic (bindings (S.seen s.old).now.state) → IsTerm (S.seen s.old) a t →
+    ensures shows { (t u : Tree) (e : FunctionEffect) → HoldsNoCycle (S.seen s.old) → IsTerm (S.seen s.old) a t →
         IsTerm (S.seen s.old) b u → built_in_function (two_name function) (tree t (tree u no_trees)) (S.seen s.old).now.state ≡
         Some e → ShowsEffect (S.seen s.old) (S.seen s.new) result e }
 {

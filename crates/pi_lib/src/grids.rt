@@ -1,10 +1,10 @@
 //! Arrays of arrays of new variables.
 ghost use Rattle.std.specs.Prelude.{◌*◌, IfOk};
 ghost use Rattle.pi_terms.specs.Tree.{Tree};
-ghost use Rattle.pi_constraints.specs.Value.{IsAcyclic};
-ghost use Rattle.pi_constraints.specs.State.{bindings, next};
+ghost use Rattle.pi_constraints.specs.State.{next};
 ghost use Rattle.pi_constraints.specs.Store.{IsTerm, Gives};
 ghost use Rattle.pi_unify.specs.Copying.{with_variables, MakesSome};
+ghost use Rattle.pi_unify.specs.Terms.{HoldsNoCycle};
 ghost use Rattle.pi_effects.specs.Items.{array_of};
 ghost use Rattle.pi_effects.specs.Making.{new_rows, new_grid};
 ghost use Rattle.pi_effects.specs.Results.{ShowsEffect};
@@ -25,7 +25,7 @@ pub fn new_grid<S: StateStore>(
     columns: Ref,
 ) -> Result<Ref, Stop>
     ensures makes { MakesSome (S.seen s.old) (S.seen s.new) }
-    ensures shows { (t u : Tree) → IsAcyclic (bindings (S.seen s.old).now.state) → IsTerm (S.seen s.old) rows t →
+    ensures shows { (t u : Tree) → HoldsNoCycle (S.seen s.old) → IsTerm (S.seen s.old) rows t →
         IsTerm (S.seen s.old) columns u → ShowsEffect (S.seen s.old) (S.seen s.new) result (new_grid (S.seen s.old).now.state t u) }
 {
     let rows = allowed(size(s, rows)?)?;

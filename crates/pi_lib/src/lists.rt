@@ -3,9 +3,8 @@ ghost use Rattle.std.specs.Prelude.{◌≡◌, IfOk};
 ghost use Rattle.std.specs.Char.{encode_utf8};
 ghost use Rattle.std.specs.Str.{chars};
 ghost use Rattle.pi_terms.specs.Tree.{Tree, atom};
-ghost use Rattle.pi_constraints.specs.Value.{IsAcyclic};
-ghost use Rattle.pi_constraints.specs.State.{bindings};
 ghost use Rattle.pi_constraints.specs.Store.{IsTerm, Stays, Gives};
+ghost use Rattle.pi_unify.specs.Terms.{HoldsNoCycle};
 ghost use Rattle.pi_effects.specs.Texts.{plain_text_list, text_list};
 ghost use Rattle.pi_effects.specs.Results.{ShowsTerm};
 
@@ -18,7 +17,7 @@ use std::alloc::{AllocError, Global};
 /// `term_too_large`. A User's Guide to Picat, 'Data Types, Operators, and Built-ins'; the limit is own.
 pub fn to_string<S: StateStore>(alloc: Global, s: &mut S, term: Ref) -> Result<Ref, Stop>
     ensures stays { Stays (S.seen s.old) (S.seen s.new) }
-    ensures shows { (t : Tree) → IsAcyclic (bindings (S.seen s.old).now.state) → IsTerm (S.seen s.old) term t →
+    ensures shows { (t : Tree) → HoldsNoCycle (S.seen s.old) → IsTerm (S.seen s.old) term t →
         ShowsTerm (S.seen s.old) (S.seen s.new) result (plain_text_list (S.seen s.old).now.state t) }
 {
     let text = text_at(alloc, s, term, false)?;

@@ -2,9 +2,9 @@
 ghost use Rattle.std.specs.Prelude.{◌≡◌, ◌==◌, ◌&&◌, List, ℕ, codes};
 ghost use Rattle.std.specs.Str.{bytes_eq};
 ghost use Rattle.pi_terms.specs.Tree.{Tree};
-ghost use Rattle.pi_constraints.specs.Value.{IsAcyclic};
 ghost use Rattle.pi_constraints.specs.State.{bindings, followed};
 ghost use Rattle.pi_constraints.specs.Store.{IsTerm, IsName};
+ghost use Rattle.pi_unify.specs.Terms.{HoldsNoCycle};
 ghost use Rattle.pi_effects.specs.Inner.{pair_parts};
 ghost use Rattle.pi_lib.specs.Pairs.{ShowsPair};
 
@@ -12,7 +12,7 @@ use pi_constraints::{Cell, Ref, StateStore};
 
 /// The items of an array that has two; None exactly where the term is no such array. It takes no memory.
 pub fn pair_at<S: StateStore>(s: &S, term: Ref) -> Option<(Ref, Ref)>
-    ensures { (t : Tree) → IsAcyclic (bindings (S.seen s.now).now.state) → IsTerm (S.seen s.now) term t →
+    ensures { (t : Tree) → HoldsNoCycle (S.seen s.now) → IsTerm (S.seen s.now) term t →
         ShowsPair (S.seen s.now) (pair_parts (followed (bindings (S.seen s.now).now.state) t)) result }
 {
     let Cell::Comp(name, count) = s.look(term) else {

@@ -1,9 +1,9 @@
 //! Calls of built-in predicates.
 ghost use Rattle.std.specs.Prelude.{◌≡◌, true, false, Some, length};
 ghost use Rattle.pi_terms.specs.Tree.{Tree, Trees, no_trees, tree};
-ghost use Rattle.pi_constraints.specs.Value.{IsAcyclic};
 ghost use Rattle.pi_constraints.specs.State.{IsState, bindings};
 ghost use Rattle.pi_constraints.specs.Store.{IsTerm, AreTerms, Keeps, Stays};
+ghost use Rattle.pi_unify.specs.Terms.{HoldsNoCycle};
 ghost use Rattle.pi_effects.specs.Effect.{Effect};
 ghost use Rattle.pi_effects.specs.BuiltIns.{built_in_predicate};
 ghost use Rattle.pi_lib_builtin.specs.Names.{none_name, test_name, pair_name, predicate_name, takes, may_bind};
@@ -85,7 +85,7 @@ fn call_of_one<S: StateStore>(
     predicate: PredicateOfOne,
     a: Ref,
 ) -> Result<Outcome, Stop>
-    ensures { (t : Tree) (e : Effect) → IsAcyclic (bindings (S.seen s.now).now.state) → IsTerm (S.seen s.now) a t →
+    ensures { (t : Tree) (e : Effect) → HoldsNoCycle (S.seen s.now) → IsTerm (S.seen s.now) a t →
         built_in_predicate (test_name predicate) (tree t no_trees) (S.seen s.now).now.state ≡ Some e →
         ShowsOutcome (S.seen s.now) (S.seen s.now) result e }
 {
@@ -151,7 +151,7 @@ fn written(text: Result<Text, Stop>) -> Result<Outcome, Stop>
 
 /// `printf`: the first argument is the format of the others.
 fn write_formatted<S: StateStore>(alloc: Global, s: &S, args: &[Ref]) -> Result<Outcome, Stop>
-    ensures { (ts : Trees) (e : Effect) → IsAcyclic (bindings (S.seen s.now).now.state) → AreTerms (S.seen s.now) args.now ts →
+    ensures { (ts : Trees) (e : Effect) → HoldsNoCycle (S.seen s.now) → AreTerms (S.seen s.now) args.now ts →
         built_in_predicate (predicate_name Predicate.Printf) ts (S.seen s.now).now.state ≡ Some e →
         ShowsOutcome (S.seen s.now) (S.seen s.now) result e }
 {

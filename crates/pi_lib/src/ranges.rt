@@ -2,9 +2,8 @@
 ghost use Rattle.std.specs.Prelude.{◌≡◌, ◌≢◌, ℕ, ◌<◌, ◌≤◌, pos, ◌+ℤ◌, ◌*ℤ◌, FitsSigned, IfOk, MatchOption};
 ghost use Rattle.std.specs.Int.{w128};
 ghost use Rattle.pi_terms.specs.Tree.{Tree, int};
-ghost use Rattle.pi_constraints.specs.Value.{IsAcyclic};
-ghost use Rattle.pi_constraints.specs.State.{bindings};
 ghost use Rattle.pi_constraints.specs.Store.{IsTerm, Stays};
+ghost use Rattle.pi_unify.specs.Terms.{HoldsNoCycle};
 ghost use Rattle.pi_effects.specs.Answer.{integer_then, integers_then};
 ghost use Rattle.pi_effects.specs.Items.{list_of};
 ghost use Rattle.pi_effects.specs.Ranges as spec;
@@ -23,7 +22,7 @@ use std::alloc::AllocError;
 /// is raised is own.
 pub fn range<S: StateStore>(s: &mut S, low: Ref, high: Ref) -> Result<Ref, Stop>
     ensures stays { Stays (S.seen s.old) (S.seen s.new) }
-    ensures shows { (t u : Tree) → IsAcyclic (bindings (S.seen s.old).now.state) → IsTerm (S.seen s.old) low t →
+    ensures shows { (t u : Tree) → HoldsNoCycle (S.seen s.old) → IsTerm (S.seen s.old) low t →
         IsTerm (S.seen s.old) high u → ShowsTerm (S.seen s.old) (S.seen s.new) result
         (integers_then (S.seen s.old).now.state t u (λ low high. spec.range low (pos 1) high)) }
 {
@@ -37,7 +36,7 @@ pub fn range<S: StateStore>(s: &mut S, low: Ref, high: Ref) -> Result<Ref, Stop>
 /// Picat, 'Data Types, Operators, and Built-ins'; what is raised is own.
 pub fn range_by<S: StateStore>(s: &mut S, low: Ref, step: Ref, high: Ref) -> Result<Ref, Stop>
     ensures stays { Stays (S.seen s.old) (S.seen s.new) }
-    ensures shows { (t u w : Tree) → IsAcyclic (bindings (S.seen s.old).now.state) → IsTerm (S.seen s.old) low t →
+    ensures shows { (t u w : Tree) → HoldsNoCycle (S.seen s.old) → IsTerm (S.seen s.old) low t →
         IsTerm (S.seen s.old) step u → IsTerm (S.seen s.old) high w →
         ShowsTerm (S.seen s.old) (S.seen s.new) result
         (integer_then (S.seen s.old).now.state t (λ low.
@@ -56,7 +55,7 @@ pub fn range_by<S: StateStore>(s: &mut S, low: Ref, step: Ref, high: Ref) -> Res
 /// array. What is raised is what the range itself raises; what is no array of two raises `type_error`, behind the first number.
 pub fn range_count<S: StateStore>(s: &mut S, low: Ref, step_and_high: Ref) -> Result<Ref, Stop>
     ensures stays { Stays (S.seen s.old) (S.seen s.new) }
-    ensures shows { (t u : Tree) → IsAcyclic (bindings (S.seen s.old).now.state) → IsTerm (S.seen s.old) low t →
+    ensures shows { (t u : Tree) → HoldsNoCycle (S.seen s.old) → IsTerm (S.seen s.old) low t →
         IsTerm (S.seen s.old) step_and_high u → ShowsTerm (S.seen s.old) (S.seen s.new) result
         (count_in (S.seen s.old).now.state t u) }
 {

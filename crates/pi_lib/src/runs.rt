@@ -1,9 +1,9 @@
 //! Calls by name.
 ghost use Rattle.std.specs.Prelude.{◌≡◌, Some, length, IfOk, IfSome};
 ghost use Rattle.pi_terms.specs.Tree.{Tree, Trees, args, arity};
-ghost use Rattle.pi_constraints.specs.Value.{IsAcyclic};
 ghost use Rattle.pi_constraints.specs.State.{IsState, bindings, followed};
 ghost use Rattle.pi_constraints.specs.Store.{IsTerm, AreTerms, Keeps};
+ghost use Rattle.pi_unify.specs.Terms.{HoldsNoCycle};
 ghost use Rattle.pi_effects.specs.Effect.{Effect, FunctionEffect};
 ghost use Rattle.pi_effects.specs.BuiltIns.{built_in_function};
 ghost use Rattle.pi_lib.specs.Runs.{ShowsStep, ShowsValue, DoesCall, IsRaised, effect_of_call, step_of};
@@ -71,7 +71,7 @@ pub fn run_predicate<S: StateStore>(alloc: Global, s: &mut S, call: Ref) -> LibS
 /// Predicates and Functions'.
 pub fn run_function<S: StateStore>(alloc: Global, s: &mut S, name: &str, args: &[Ref]) -> LibValue
     ensures keeps { Keeps (S.seen s.old) (S.seen s.new) }
-    ensures shows { (ts : Trees) (e : FunctionEffect) → IsAcyclic (bindings (S.seen s.old).now.state) →
+    ensures shows { (ts : Trees) (e : FunctionEffect) → HoldsNoCycle (S.seen s.old) →
         AreTerms (S.seen s.old) args.now ts → built_in_function name.now ts (S.seen s.old).now.state ≡ Some e →
         ShowsValue (S.seen s.old) (S.seen s.new) result e }
 {
@@ -140,7 +140,7 @@ fn arguments<S: StateStore>(
     call: Ref,
     count: u64,
 ) -> Result<Vec<Ref>, AllocError>
-    ensures { IfOk result (λ found. (t : Tree) → IsAcyclic (bindings (S.seen s.now).now.state) → IsTerm (S.seen s.now) call t →
+    ensures { IfOk result (λ found. (t : Tree) → HoldsNoCycle (S.seen s.now) → IsTerm (S.seen s.now) call t →
         count ≡ arity (followed (bindings (S.seen s.now).now.state) t) →
         AreTerms (S.seen s.now) found.items (args (followed (bindings (S.seen s.now).now.state) t))) }
 {

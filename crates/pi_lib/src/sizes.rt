@@ -1,9 +1,9 @@
 //! How many items are asked for.
 ghost use Rattle.std.specs.Prelude.{◌≡◌, ◌<◌, ◌≤◌, IfOk, IfErr};
 ghost use Rattle.pi_terms.specs.Tree.{Tree};
-ghost use Rattle.pi_constraints.specs.Value.{IsAcyclic};
 ghost use Rattle.pi_constraints.specs.State.{bindings, followed};
 ghost use Rattle.pi_constraints.specs.Store.{IsTerm};
+ghost use Rattle.pi_unify.specs.Terms.{HoldsNoCycle};
 ghost use Rattle.pi_effects.specs.Exception.{bad_index};
 ghost use Rattle.pi_effects.specs.Answer.{or_raised};
 ghost use Rattle.pi_effects.specs.Ranges.{most_items};
@@ -20,7 +20,7 @@ pub const MOST_ITEMS: u128 = 16_777_216;
 
 /// The size that an argument is: an integer from 0. It takes no memory.
 pub fn size<S: StateStore>(s: &S, term: Ref) -> Result<u128, Stop>
-    ensures { (t : Tree) → IsAcyclic (bindings (S.seen s.now).now.state) → IsTerm (S.seen s.now) term t →
+    ensures { (t : Tree) → HoldsNoCycle (S.seen s.now) → IsTerm (S.seen s.now) term t →
         ShowsSame (S.seen s.now) result (or_raised (size_at (followed (bindings (S.seen s.now).now.state) t))
         (bad_index t (S.seen s.now).now.state)) }
 {

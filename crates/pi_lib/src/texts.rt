@@ -1,10 +1,11 @@
 //! Texts of terms of a store.
 ghost use Rattle.std.specs.Prelude.{[], ◌++◌, Ok};
 ghost use Rattle.pi_terms.specs.Tree.{Tree};
-ghost use Rattle.pi_constraints.specs.Value.{IsAcyclic, value};
+ghost use Rattle.pi_constraints.specs.Value.{value};
 ghost use Rattle.pi_constraints.specs.State.{bindings};
 ghost use Rattle.pi_constraints.specs.Store.{IsTerm};
 ghost use Rattle.pi_syntax.specs.PrintTerm.{text_of};
+ghost use Rattle.pi_unify.specs.Terms.{HoldsNoCycle};
 ghost use Rattle.pi_effects.specs.Answer.{measured};
 ghost use Rattle.pi_effects.specs.Texts as spec;
 ghost use Rattle.pi_effects.specs.Results.{ShowsSame};
@@ -25,7 +26,7 @@ pub fn text_before<S: StateStore>(
     quoted: bool,
     behind: &str,
 ) -> Result<Text, Stop>
-    ensures { (t : Tree) → IsAcyclic (bindings (S.seen s.now).now.state) → IsTerm (S.seen s.now) term t →
+    ensures { (t : Tree) → HoldsNoCycle (S.seen s.now) → IsTerm (S.seen s.now) term t →
         ShowsSame (S.seen s.now) result (spec.text_before quoted behind.now (S.seen s.now).now.state t) }
 {
     let text = text_at(alloc, s, term, quoted)?;
@@ -37,7 +38,7 @@ pub fn text_before<S: StateStore>(
 
 /// The text of a term's value.
 pub fn text_at<S: StateStore>(alloc: Global, s: &S, term: Ref, quoted: bool) -> Result<Text, Stop>
-    ensures { (t : Tree) → IsAcyclic (bindings (S.seen s.now).now.state) → IsTerm (S.seen s.now) term t →
+    ensures { (t : Tree) → HoldsNoCycle (S.seen s.now) → IsTerm (S.seen s.now) term t →
         ShowsSame (S.seen s.now) result (measured (value (bindings (S.seen s.now).now.state) t)
         (Ok (text_of quoted (value (bindings (S.seen s.now).now.state) t)))) }
 {

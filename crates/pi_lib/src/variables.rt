@@ -1,10 +1,10 @@
 //! Lists and arrays of new variables.
 ghost use Rattle.std.specs.Prelude.{◌≡◌, ℕ, ◌+◌, IfOk, OnErr};
 ghost use Rattle.pi_terms.specs.Tree.{Tree, trees_of};
-ghost use Rattle.pi_constraints.specs.Value.{IsAcyclic};
-ghost use Rattle.pi_constraints.specs.State.{bindings, next};
+ghost use Rattle.pi_constraints.specs.State.{next};
 ghost use Rattle.pi_constraints.specs.Store.{IsTerm, AreTerms, Gives, Stays};
 ghost use Rattle.pi_unify.specs.Copying.{with_variables, Makes, MakesSome};
+ghost use Rattle.pi_unify.specs.Terms.{HoldsNoCycle};
 ghost use Rattle.pi_effects.specs.Items.{list_of, array_of};
 ghost use Rattle.pi_effects.specs.Making.{new_from, new_items};
 ghost use Rattle.pi_effects.specs.Results.{ShowsEffect};
@@ -18,7 +18,7 @@ use std::alloc::{AllocError, Global};
 /// 16,777,216 `range_too_long`. A User's Guide to Picat, 'Data Types, Operators, and Built-ins'; what is raised is own.
 pub fn new_list<S: StateStore>(s: &mut S, count: Ref) -> Result<Ref, Stop>
     ensures makes { MakesSome (S.seen s.old) (S.seen s.new) }
-    ensures shows { (t : Tree) → IsAcyclic (bindings (S.seen s.old).now.state) → IsTerm (S.seen s.old) count t →
+    ensures shows { (t : Tree) → HoldsNoCycle (S.seen s.old) → IsTerm (S.seen s.old) count t →
         ShowsEffect (S.seen s.old) (S.seen s.new) result (new_items list_of (S.seen s.old).now.state t) }
 {
     let count = allowed(size(s, count)?)?;
@@ -30,7 +30,7 @@ pub fn new_list<S: StateStore>(s: &mut S, count: Ref) -> Result<Ref, Stop>
 /// Types, Operators, and Built-ins'; what is raised is own.
 pub fn new_array<S: StateStore>(alloc: Global, s: &mut S, count: Ref) -> Result<Ref, Stop>
     ensures makes { MakesSome (S.seen s.old) (S.seen s.new) }
-    ensures shows { (t : Tree) → IsAcyclic (bindings (S.seen s.old).now.state) → IsTerm (S.seen s.old) count t →
+    ensures shows { (t : Tree) → HoldsNoCycle (S.seen s.old) → IsTerm (S.seen s.old) count t →
         ShowsEffect (S.seen s.old) (S.seen s.new) result (new_items array_of (S.seen s.old).now.state t) }
 {
     let count = allowed(size(s, count)?)?;

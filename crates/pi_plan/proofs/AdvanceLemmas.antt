@@ -21,7 +21,7 @@ use Rattle.pi_plan.specs.declared.search.Origin.{Origin}
 use Rattle.pi_plan.specs.declared.search.Search.{Search}
 use Rattle.pi_plan.specs.declared.search.Standing.{Standing}
 use Rattle.pi_plan.specs.Place.{place_of, place_order}
-use Rattle.pi_plan.specs.Ways.{ComesFrom, AreWays}
+use Rattle.pi_plan.specs.Ways.{ComesFrom, AreWays, root}
 use Rattle.pi_plan.specs.Searching.{weight, Asked, asked_of, asked_by, rest_of, Covers, Improves, IsSearch, Unfolds, AreGiven, NoneFinal}
 use Rattle.pi_plan.specs.Search.{known_of, Keeps, Adds, known_before, put_now, AddsStep, start_way, IsSearchNow, Takes, IsDry}
 use Rattle.pi_plan.specs.Planner.{number_of, first_number_of, IsUnder, IsReady, IsAsking, IsAnswered, IsSpent}
@@ -80,7 +80,7 @@ same_search b start old level unfolded asked k spent covered search ways = recor
 }
 
 pub added : (b : Bodies) (start : Tree) (old new : Search) (level : ℕ) (unfolded : List GivenState) (asked : List Asked) (k : Place) (w : Way) (spent : ℕ) → Adds old new k w spent →
-    IsFit old.by_rest old.whole level k w spent → ComesFrom b start old.whole old.ways.items (length old.ways.items) w w.origin → IsSearchNow old level unfolded asked → AreWays b start old.whole old.ways.items →
+    IsFit old.by_rest old.whole level k w spent → ComesFrom b (root start old.whole) old.ways.items (length old.ways.items) w w.origin → IsSearchNow old level unfolded asked → AreWays b start old.whole old.ways.items →
     Added b start old new level unfolded asked k spent
 added b start old new level unfolded asked k w spent (known_before covered same) fit from search ways =
     subst (λ (s : Search). Added b start old s level unfolded asked k spent) (sym same) (same_search b start old level unfolded asked k spent covered search ways)

@@ -9,7 +9,7 @@ use Rattle.pi_plan.specs.Plan.{Valid, at_goal, then_plan}
 use Rattle.pi_plan.specs.Given.{GivenFinal, over}
 use Rattle.pi_plan.specs.declared.search.Way.{Way}
 use Rattle.pi_plan.specs.declared.search.Origin.{Origin}
-use Rattle.pi_plan.specs.Ways.{IsStepFrom, IsStart, ComesFrom, AreWays}
+use Rattle.pi_plan.specs.Ways.{IsStepFrom, IsStart, ComesFrom, AreWays, root}
 
 -- actions that are a valid plan from a way on, whose cost is what is left there without what is left at the end
 pub record PlanFrom (given : List GivenState) (by_rest : Bool) (ways : List Way) (left at : ℕ) (actions : List Tree) : Type 0 where
@@ -53,7 +53,7 @@ pub building_more : (ways : List Way) (number at : ℕ) (actions : List Tree) (h
 building_more ways number at actions here parent action b is_here origin = record {
   builds = λ given by_rest start whole w are is_way final.
       let p : PlanFrom given by_rest ways w.rest at actions = b.builds given by_rest start whole w are is_way final in
-      let from : ComesFrom (over given by_rest) start whole ways at here (Origin.Step parent action) = subst (λ (o : Origin). ComesFrom (over given by_rest) start whole ways at here o) origin (are.each at here is_here) in
+      let from : ComesFrom (over given by_rest) (root start whole) ways at here (Origin.Step parent action) = subst (λ (o : Origin). ComesFrom (over given by_rest) (root start whole) ways at here o) origin (are.each at here is_here) in
       step_more given by_rest ways w.rest at actions here parent action p (one-some (slice_get ways at) p.here here p.is_here is_here) from;
 }
 
@@ -62,7 +62,7 @@ pub building_end : (ways : List Way) (number at : ℕ) (actions : List Tree) (he
 building_end ways number at actions here b is_here origin given by_rest start whole w are is_way final =
     let p : PlanFrom given by_rest ways w.rest at actions = b.builds given by_rest start whole w are is_way final in
     let same : p.here ≡ here = one-some (slice_get ways at) p.here here p.is_here is_here in
-    let from : IsStart start whole here = subst (λ (o : Origin). ComesFrom (over given by_rest) start whole ways at here o) origin (are.each at here is_here) in
+    let from : IsStart (root start whole) here = subst (λ (o : Origin). ComesFrom (over given by_rest) (root start whole) ways at here o) origin (are.each at here is_here) in
     let at_start : Valid (over given by_rest) start whole actions p.cost =
     subst (λ (r : ℕ). Valid (over given by_rest) start r actions p.cost) from.rest (subst (λ (s : Tree). Valid (over given by_rest) s here.rest actions p.cost) from.state
     (subst (λ (x : Way). Valid (over given by_rest) x.place.state x.rest actions p.cost) same p.valid)) in

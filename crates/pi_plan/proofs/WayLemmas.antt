@@ -9,11 +9,11 @@ use Rattle.pi_plan.specs.Given.{over}
 use Rattle.pi_plan.proofs.GivenLemmas.{step_stays}
 use Rattle.pi_plan.specs.declared.search.Way.{Way}
 use Rattle.pi_plan.specs.declared.search.Origin.{Origin}
-use Rattle.pi_plan.specs.Ways.{ComesFrom, AreWays}
+use Rattle.pi_plan.specs.Ways.{ComesFrom, AreWays, root}
 
 -- ---- one more way
 
-comes_stays : (b : Bodies) (start : Tree) (whole : ℕ) (ways : List Way) (v : Way) (i : ℕ) (w : Way) (o : Origin) → ComesFrom b start whole ways i w o → ComesFrom b start whole (ways ++ v ∷ []) i w o
+comes_stays : (b : Bodies) (start : Tree) (whole : ℕ) (ways : List Way) (v : Way) (i : ℕ) (w : Way) (o : Origin) → ComesFrom b (root start whole) ways i w o → ComesFrom b (root start whole) (ways ++ v ∷ []) i w o
 comes_stays b start whole ways v i w Origin.Start h = h
 comes_stays b start whole ways v i w (Origin.Step parent action) h = record {
   earlier = h.earlier;
@@ -24,12 +24,12 @@ comes_stays b start whole ways v i w (Origin.Step parent action) h = record {
   rest = h.rest;
 }
 
-pub ways_put : (b : Bodies) (start : Tree) (whole : ℕ) (ways : List Way) (v : Way) → AreWays b start whole ways → ComesFrom b start whole ways (length ways) v v.origin → AreWays b start whole (ways ++ v ∷ [])
+pub ways_put : (b : Bodies) (start : Tree) (whole : ℕ) (ways : List Way) (v : Way) → AreWays b start whole ways → ComesFrom b (root start whole) ways (length ways) v v.origin → AreWays b start whole (ways ++ v ∷ [])
 ways_put b start whole ways v are new = record {
   each = λ i w at. elim (get_append_cases ways v i w at) [
     | inl before ↦ comes_stays b start whole ways v i w w.origin (are.each i w before)
     | inr last ↦
-        let P : ℕ → Way → Type 0 = λ j x. ComesFrom b start whole (ways ++ v ∷ []) j x x.origin in
+        let P : ℕ → Way → Type 0 = λ j x. ComesFrom b (root start whole) (ways ++ v ∷ []) j x x.origin in
         let here : P (length ways) v = comes_stays b start whole ways v (length ways) v v.origin new in
         subst (λ (j : ℕ). P j w) (sym last.0) (subst (λ (x : Way). P (length ways) x) (sym last.1) here)
   ];
@@ -38,7 +38,7 @@ ways_put b start whole ways v are new = record {
 -- ---- one more entry
 
 comes_given : (given : List GivenState) (e : GivenState) (by_rest : Bool) (start : Tree) (whole : ℕ) (ways : List Way) (i : ℕ) (w : Way) (o : Origin) →
-    ComesFrom (over given by_rest) start whole ways i w o → ComesFrom (over (given ++ e ∷ []) by_rest) start whole ways i w o
+    ComesFrom (over given by_rest) (root start whole) ways i w o → ComesFrom (over (given ++ e ∷ []) by_rest) (root start whole) ways i w o
 comes_given given e by_rest start whole ways i w Origin.Start h = h
 comes_given given e by_rest start whole ways i w (Origin.Step parent action) h = record {
   earlier = h.earlier;
@@ -55,7 +55,7 @@ ways_given given e by_rest start whole ways are = record { each = λ i w at. com
 
 -- ---- what they lead to
 
-reached_from : (b : Bodies) (start : Tree) (whole : ℕ) (ways : List Way) → ((s : Tree) (r : ℕ) → b.Final s r → ⊥) → (i : ℕ) (w : Way) (o : Origin) → ComesFrom b start whole ways i w o →
+reached_from : (b : Bodies) (start : Tree) (whole : ℕ) (ways : List Way) → ((s : Tree) (r : ℕ) → b.Final s r → ⊥) → (i : ℕ) (w : Way) (o : Origin) → ComesFrom b (root start whole) ways i w o →
     ((j : ℕ) (v : Way) → j < i → slice_get ways j ≡ Some v → Reached b start whole v.place.state v.rest) → Reached b start whole w.place.state w.rest
 reached_from b start whole ways none i w Origin.Start h before =
     subst (λ (s : Tree). Reached b start whole s w.rest) (sym h.state) (subst (λ (r : ℕ). Reached b start whole start r) (sym h.rest) at_start)

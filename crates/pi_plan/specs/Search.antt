@@ -90,15 +90,24 @@ pub record IsFirst (s : Search) (level : ℕ) (unfolded : List GivenState) (aske
   pub search : IsSearch s.by_rest s.whole level unfolded asked s.ways.items (known_of s) (d ∷ s.frontier.keys)
   pub least : (x : Due) → Contains s.frontier.keys x → d.cost ≤ x.cost
 
-abbrev pub Taken : Search → Search → ℕ → List GivenState → List Asked → ℕ → Bool → Type 0
-Taken old new level unfolded asked i true = Takes old new unfolded asked i
-Taken old new level unfolded asked i false = Skips old new level unfolded asked
+-- how far a search has come: the level below which nothing is due, what was unfolded, and what was asked for
+pub record SoFar : Type 0 where
+  pub level : ℕ
+  pub unfolded : List GivenState
+  pub asked : List Asked
+
+abbrev pub so_far : ℕ → List GivenState → List Asked → SoFar
+so_far level unfolded asked = record { level = level; unfolded = unfolded; asked = asked }
+
+abbrev pub Taken : Search → Search → SoFar → ℕ → Bool → Type 0
+Taken old new h i true = Takes old new h.unfolded h.asked i
+Taken old new h i false = Skips old new h.level h.unfolded h.asked
 
 -- nothing is due any more
 pub record IsDry (old new : Search) (level : ℕ) (unfolded : List GivenState) (asked : List Asked) : Type 0 where
   pub skips : Skips old new level unfolded asked
   pub dry : new.frontier.keys ≡ []
 
-abbrev pub Pops : Search → Search → ℕ → List GivenState → List Asked → Option ℕ → Type 0
-Pops old new level unfolded asked None = IsDry old new level unfolded asked
-Pops old new level unfolded asked (Some i) = Takes old new unfolded asked i
+abbrev pub Pops : Search → Search → SoFar → Option ℕ → Type 0
+Pops old new h None = IsDry old new h.level h.unfolded h.asked
+Pops old new h (Some i) = Takes old new h.unfolded h.asked i

@@ -14,14 +14,22 @@ pub record IsStepFrom (b : Bodies) (ways : List Way) (i : ℕ) (w : Way) (parent
   pub step : Step b before.place.state before.rest action cost w.place.state
   pub rest : w.rest ≡ before.rest - cost
 
-pub record IsStart (start : Tree) (whole : ℕ) (w : Way) : Type 0 where
-  pub state : w.place.state ≡ start
-  pub rest : w.rest ≡ whole
+-- where a search begins: the state, and the whole limit
+pub record Root : Type 0 where
+  pub state : Tree
+  pub limit : ℕ
 
-abbrev pub ComesFrom : Bodies → Tree → ℕ → List Way → ℕ → Way → Origin → Type 0
-ComesFrom b start whole ways i w Origin.Start = IsStart start whole w
-ComesFrom b start whole ways i w (Origin.Step parent action) = IsStepFrom b ways i w parent action
+abbrev pub root : Tree → ℕ → Root
+root start whole = record { state = start; limit = whole }
+
+pub record IsStart (r : Root) (w : Way) : Type 0 where
+  pub state : w.place.state ≡ r.state
+  pub rest : w.rest ≡ r.limit
+
+abbrev pub ComesFrom : Bodies → Root → List Way → ℕ → Way → Origin → Type 0
+ComesFrom b r ways i w Origin.Start = IsStart r w
+ComesFrom b r ways i w (Origin.Step parent action) = IsStepFrom b ways i w parent action
 
 -- each way has the whole limit left at the start, and what a step leaves behind it
 pub record AreWays (b : Bodies) (start : Tree) (whole : ℕ) (ways : List Way) : Type 0 where
-  pub each : (i : ℕ) (w : Way) → slice_get ways i ≡ Some w → ComesFrom b start whole ways i w w.origin
+  pub each : (i : ℕ) (w : Way) → slice_get ways i ≡ Some w → ComesFrom b (root start whole) ways i w w.origin

@@ -5,7 +5,7 @@ ghost use Rattle.pi_plan.specs.declared.given.GivenState.{GivenState};
 ghost use Rattle.std.specs.BTreeMap.{get};
 ghost use Rattle.pi_plan.specs.Place.{place_of, place_order};
 ghost use Rattle.pi_plan.specs.Searching.{Asked, weight};
-ghost use Rattle.pi_plan.specs.Search.{known_of, covers, opens, start_way, Keeps, Puts, Adds, AddsStep, Marks, IsSearchNow, IsFirst, Taken, Pops};
+ghost use Rattle.pi_plan.specs.Search.{known_of, covers, opens, start_way, Keeps, Puts, Adds, AddsStep, Marks, IsSearchNow, IsFirst, so_far, Taken, Pops};
 
 use crate::checks::cost_of;
 use crate::due::Due;
@@ -165,7 +165,7 @@ impl Search {
     pub(crate) fn pop(&mut self) -> Option<usize>
         ensures keeps { Keeps self.old self.new }
         ensures pops { (level : ℕ) (unfolded : List GivenState) (asked : List Asked) → IsSearchNow self.old level unfolded asked →
-            Pops self.old self.new level unfolded asked result }
+            Pops self.old self.new (so_far level unfolded asked) result }
     {
         while let Some(due) = self.frontier.pop_first() {
             if self.take(due) {
@@ -180,7 +180,7 @@ impl Search {
         ensures keeps { Keeps self.old self.new }
         ensures frontier { self.new.frontier.keys ≡ self.old.frontier.keys }
         ensures takes { (level : ℕ) (unfolded : List GivenState) (asked : List Asked) → IsFirst self.old level unfolded asked due →
-            Taken self.old self.new level unfolded asked due.way result }
+            Taken self.old self.new (so_far level unfolded asked) due.way result }
     {
         let Some(way) = way_at(&self.ways, due.way) else {
             return false;

@@ -20,9 +20,9 @@ use Rattle.pi_rewrite_loops.specs.Parts.{AreGoals, IsValue, goals_before}
 use Rattle.pi_rewrite_loops.specs.Helpers.{loop_of, lowered}
 use Rattle.pi_rewrite_loops.specs.declared.loops.Loop.{Loop}
 use Rattle.pi_rewrite_loops.proofs.WholeLemmas.{comprehension-whole}
-use Rattle.pi_rewrite_goals.specs.Lowering.{by_place}
+use Rattle.pi_rewrite_goals.specs.Lowering.{by_place, so_far}
 use Rattle.pi_rewrite_goals.specs.Opened.{onto, all_around, all_own, AreOpen}
-use Rattle.pi_rewrite_goals.specs.Started.{Begins, Ends}
+use Rattle.pi_rewrite_goals.specs.Started.{Begins, Ends, loop_text, turns_at}
 use Rattle.pi_rewrite_goals.specs.declared.opened.Open.{Open}
 use Rattle.pi_rewrite_goals.proofs.ValueLemmas.{value-as, goals-as}
 
@@ -46,8 +46,8 @@ closed-helpers s ending i us first ns os t goals turn ms m old new more all body
 
 -- ---- where it stands
 
-pub whole-goals : (w : Option Loop) (s : Site) (ending : Ending) (kept : Names) (i : Inner) (us : ExpTrees) (ns : SlotNames) (t : Site) (now : Ending) (first gs old new : List GoalTree) (ms ns' ks end : SlotNames) (hs all : List PredTree) (body : Site → SlotNames → SlotGoals) → Begins w s ending kept i us ns t now first ms ns' →
-    lowered gs ks ≡ units t now i us body ms → Ends w s gs ks ns' old new end hs all → AreGoals (started_goals (begins_with_iterator us) (units s ending i us body) s (start_loop s ending kept i us) ns) old new end
+pub whole-goals : (w : Option Loop) (s : Site) (ending : Ending) (kept : Names) (i : Inner) (us : ExpTrees) (ns : SlotNames) (t : Site) (now : Ending) (first gs old new : List GoalTree) (ms ns' ks end : SlotNames) (hs all : List PredTree) (body : Site → SlotNames → SlotGoals) → Begins w (loop_text s ending kept i us) ns (turns_at t now first ms) ns' →
+    lowered gs ks ≡ units t now i us body ms → Ends w s (lowered gs ks) (so_far ns' old hs) (so_far end new all) → AreGoals (started_goals (begins_with_iterator us) (units s ending i us body) s (start_loop s ending kept i us) ns) old new end
 whole-goals None s ending kept i us ns t now first gs old new ms ns' ks end hs all body begins turn ends =
     let l : LoopTree = start_loop s ending kept i us in
     let there : Site → Ending → SlotNames → SlotGoals = λ z w ms. units z w i us body ms in
@@ -61,7 +61,7 @@ whole-goals (Some l) s ending kept i us ns t now first gs old new ms ns' ks end 
     ∙ (ap (λ w. loop_goals s.filled s.before w ns) (sym begins.whole) ∙ ap (λ ms. loop_goals s.filled s.before (loop_of l) ms) (sym begins.same))) ends.put
 
 pub whole-helpers : (w : Option Loop) (s : Site) (ending : Ending) (kept : Names) (i : Inner) (us : ExpTrees) (ns : SlotNames) (t : Site) (now : Ending) (first gs old new : List GoalTree) (ms ns' ks end : SlotNames) (before hs all : List PredTree) (body : Site → SlotNames → SlotGoals) (inner : Site → List PredTree) →
-    Begins w s ending kept i us ns t now first ms ns' → lowered gs ks ≡ units t now i us body ms → hs ≡ before ++ units_helpers t now i us body inner → Ends w s gs ks ns' old new end hs all →
+    Begins w (loop_text s ending kept i us) ns (turns_at t now first ms) ns' → lowered gs ks ≡ units t now i us body ms → hs ≡ before ++ units_helpers t now i us body inner → Ends w s (lowered gs ks) (so_far ns' old hs) (so_far end new all) →
     all ≡ before ++ started_helpers (begins_with_iterator us) (λ u e. units_helpers u e i us body inner) (λ u. units u as_it_is i us body) s (start_loop s ending kept i us)
 whole-helpers None s ending kept i us ns t now first gs old new ms ns' ks end before hs all body inner begins turn own ends =
     let there : Site → Ending → List PredTree = λ u e. units_helpers u e i us body inner in
@@ -85,19 +85,19 @@ whole-helpers (Some w) s ending kept i us ns t now first gs old new ms ns' ks en
 
 -- ---- from where it begins to where it ends
 
-begins-none : (w : Option Loop) (s : Site) (ending : Ending) (kept : Names) (i : Inner) (us : ExpTrees) (ns : SlotNames) (t : Site) (now : Ending) (first : List GoalTree) (ms ns' : SlotNames) → Begins w s ending kept i us ns t now first ms ns' → first ≡ []
+begins-none : (w : Option Loop) (s : Site) (ending : Ending) (kept : Names) (i : Inner) (us : ExpTrees) (ns : SlotNames) (t : Site) (now : Ending) (first : List GoalTree) (ms ns' : SlotNames) → Begins w (loop_text s ending kept i us) ns (turns_at t now first ms) ns' → first ≡ []
 begins-none None s ending kept i us ns t now first ms ns' begins = begins.goals_are
 begins-none (Some l) s ending kept i us ns t now first ms ns' begins = begins.goals_are
 
 pub iterated-goals : (w : Option Loop) (s : Site) (ending : Ending) (kept : Names) (i : Inner) (us : ExpTrees) (ns : SlotNames) (t : Site) (now : Ending) (first : List GoalTree) (ms ns' : SlotNames) (os : List Open) (u : Site) (goals turn gs old new : List GoalTree) (m n ks end : SlotNames) (before hs hs' all : List PredTree) (body : Site → SlotNames → SlotGoals) →
-    Begins w s ending kept i us ns t now first ms ns' → AreOpen t now i us first ms os u goals m before hs → AreGoals (body u m) goals turn n → lowered gs ks ≡ all_around os (lowered turn n) → Ends w s gs ks ns' old new end hs' all →
+    Begins w (loop_text s ending kept i us) ns (turns_at t now first ms) ns' → AreOpen t now i us first ms os u goals m before hs → AreGoals (body u m) goals turn n → lowered gs ks ≡ all_around os (lowered turn n) → Ends w s (lowered gs ks) (so_far ns' old hs') (so_far end new all) →
     AreGoals (started_goals (begins_with_iterator us) (units s ending i us body) s (start_loop s ending kept i us) ns) old new end
 iterated-goals w s ending kept i us ns t now first ms ns' os u goals turn gs old new m n ks end before hs hs' all body begins are put close ends =
     let turns : lowered gs ks ≡ units t now i us body ms = closed-goals t now i us first ms os u goals turn gs m n ks before hs body (begins-none w s ending kept i us ns t now first ms ns' begins) are put close in
     whole-goals w s ending kept i us ns t now first gs old new ms ns' ks end hs' all body begins turns ends
 
 pub iterated-helpers : (w : Option Loop) (s : Site) (ending : Ending) (kept : Names) (i : Inner) (us : ExpTrees) (ns : SlotNames) (t : Site) (now : Ending) (first : List GoalTree) (ms ns' : SlotNames) (os : List Open) (u : Site) (goals turn gs old new : List GoalTree) (m n ks end : SlotNames) (before hs more hs' all : List PredTree) (body : Site → SlotNames → SlotGoals)
-    (inner : Site → List PredTree) → Begins w s ending kept i us ns t now first ms ns' → AreOpen t now i us first ms os u goals m before hs → AreGoals (body u m) goals turn n → more ≡ hs ++ inner u → lowered gs ks ≡ all_around os (lowered turn n) → hs' ≡ more ++ all_own os (lowered turn n) → Ends w s gs ks ns' old new end hs' all →
+    (inner : Site → List PredTree) → Begins w (loop_text s ending kept i us) ns (turns_at t now first ms) ns' → AreOpen t now i us first ms os u goals m before hs → AreGoals (body u m) goals turn n → more ≡ hs ++ inner u → lowered gs ks ≡ all_around os (lowered turn n) → hs' ≡ more ++ all_own os (lowered turn n) → Ends w s (lowered gs ks) (so_far ns' old hs') (so_far end new all) →
     all ≡ before ++ started_helpers (begins_with_iterator us) (λ v e. units_helpers v e i us body inner) (λ v. units v as_it_is i us body) s (start_loop s ending kept i us)
 iterated-helpers w s ending kept i us ns t now first ms ns' os u goals turn gs old new m n ks end before hs more hs' all body inner begins are put here close own ends =
     let turns : lowered gs ks ≡ units t now i us body ms = closed-goals t now i us first ms os u goals turn gs m n ks before hs body (begins-none w s ending kept i us ns t now first ms ns' begins) are put close in

@@ -17,7 +17,7 @@ use Rattle.pi_rewrite_spec.specs.Helpers.{goal_helpers}
 use Rattle.pi_rewrite_loops.specs.Parts.{AreGoals}
 use Rattle.pi_rewrite_sites.specs.SiteOf.{site_of}
 use Rattle.pi_rewrite_loops.specs.Helpers.{loop_of, lowered}
-use Rattle.pi_rewrite_goals.specs.Lowering.{Puts}
+use Rattle.pi_rewrite_goals.specs.Lowering.{Puts, so_far}
 use Rattle.pi_rewrite_goals.specs.Turning.{HasTurns, EndsTurns}
 use Rattle.pi_rewrite_goals.specs.declared.loops.Turns.{Turns}
 use Rattle.pi_rewrite_goals.proofs.ValueLemmas.{goals-as}
@@ -94,8 +94,8 @@ helpers-do s t u e b c l h p is at next made =
 -- ---- both, whose turns code goes through
 
 pub while-whole : (s : Site) (e : ExpTree) (a b c d : Exp) (t : Turns) (ns m : SlotNames) (old new first last : List GoalTree) (mid end : SlotNames) (before one two all : List CorePred) → e ≡ ExpTree.while_do (exp_tree c) (exp_tree d) → a ≡ c → b ≡ d →
-    HasTurns s (while_loop s (exp_tree a) (exp_tree b)) (exp_tree a) t → Puts (site_of t.first) (exp_tree c) t.slots t.one.items first mid before one → Puts (site_of t.second) (exp_tree d) mid t.other.items last end one two →
-    EndsTurns s (loop_of t.whole) (while_shape (loop_of t.whole) first last end) ns old new m (map pred_tree two) (map pred_tree all) → Puts s e ns old new m before all
+    HasTurns s (while_loop s (exp_tree a) (exp_tree b)) (exp_tree a) t → Puts (site_of t.first) (exp_tree c) (so_far t.slots t.one.items before) (so_far mid first one) → Puts (site_of t.second) (exp_tree d) (so_far mid t.other.items one) (so_far end last two) →
+    EndsTurns s (loop_of t.whole) (while_shape (loop_of t.whole) first last end) ns old new m (map pred_tree two) (map pred_tree all) → Puts s e (so_far ns old before) (so_far m new all)
 while-whole s e a b c d t ns m old new first last mid end before one two all p same other begun put more ended =
     let l : Loop = loop_of t.whole in
     let x : ExpTree = exp_tree c in
@@ -113,8 +113,8 @@ while-whole s e a b c d t ns m old new first last mid end before one two all p s
     }
 
 pub do-whole : (s : Site) (e : ExpTree) (a b c d : Exp) (t : Turns) (ns m : SlotNames) (old new first last : List GoalTree) (mid end : SlotNames) (before one two all : List CorePred) → e ≡ ExpTree.do_while (exp_tree c) (exp_tree d) → a ≡ c → b ≡ d →
-    HasTurns s (do_loop s (exp_tree a) (exp_tree b)) (exp_tree a) t → Puts (site_of t.first) (exp_tree c) t.slots t.one.items first mid before one → Puts (site_of t.second) (exp_tree d) mid t.other.items last end one two →
-    EndsTurns s (loop_of t.whole) (do_shape (loop_of t.whole) first last end) ns old new m (map pred_tree two) (map pred_tree all) → Puts s e ns old new m before all
+    HasTurns s (do_loop s (exp_tree a) (exp_tree b)) (exp_tree a) t → Puts (site_of t.first) (exp_tree c) (so_far t.slots t.one.items before) (so_far mid first one) → Puts (site_of t.second) (exp_tree d) (so_far mid t.other.items one) (so_far end last two) →
+    EndsTurns s (loop_of t.whole) (do_shape (loop_of t.whole) first last end) ns old new m (map pred_tree two) (map pred_tree all) → Puts s e (so_far ns old before) (so_far m new all)
 do-whole s e a b c d t ns m old new first last mid end before one two all p same other begun put more ended =
     let l : Loop = loop_of t.whole in
     let x : ExpTree = exp_tree c in

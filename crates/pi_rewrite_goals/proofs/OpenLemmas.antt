@@ -16,7 +16,7 @@ use Rattle.pi_rewrite_spec.specs.Loops.{Ending, as_it_is, Loop, slots_from, slot
 use Rattle.pi_rewrite_spec.specs.Iterators.{handed, turn_slots, element_helper, tested}
 use Rattle.pi_rewrite_spec.specs.Ranges.{next_turn, range_helper}
 use Rattle.pi_rewrite_spec.specs.Written.{Inner, goal_of, units, unit_goals, gone_over, is_range, iterator_loop, elements_of, bounds_of, collection_of, turn_name}
-use Rattle.pi_rewrite_spec.specs.Helpers.{goal_helpers, units_helpers, collection_helpers, unit_helpers, iterated_helpers, own_helpers}
+use Rattle.pi_rewrite_spec.specs.Helpers.{goal_helpers, units_helpers, collection_helpers, unit_helpers, iterated_helpers, own_helpers, iterator_text}
 use Rattle.pi_rewrite_loops.specs.Parts.{IsAlone}
 use Rattle.pi_rewrite_loops.specs.Helpers.{IsElement, loop_of, lowered, own_by}
 use Rattle.pi_rewrite_sites.specs.SiteOf.{site_of}
@@ -95,14 +95,14 @@ step-test i t t' now u us goals ms m test before more old new is here go same em
     let g : SlotGoals = goal_of t u ms in
     record {
       goals_are = λ body.
-          ap (λ o. onto goals (unit_goals o (λ e ks. gone_over (is_range u) t.filled t.before (iterator_loop t now i u us e) (bounds_of t u) (collection_of t u) ks) (λ ks. tested (goal_of t u ks) (rest body (behind_exp t u))) ms)) is
+          ap (λ o. onto goals (unit_goals o (λ e ks. gone_over (is_range u) t (iterator_loop t now i u us e) (bounds_of t u) (collection_of t u) ks) (λ ks. tested (goal_of t u ks) (rest body (behind_exp t u))) ms)) is
           ∙ (ap (λ z. onto goals (tested g (rest body z))) (sym go)
           ∙ (ap (λ (x : GoalTree). tested_shape x (rest body t' g.names) goals) (sym here.goal)
           ∙ (ap (λ ks. tested_shape test (rest body t' ks) goals) (sym here.names)
           ∙ (ap (tested_shape test (rest body t' m)) (sym same) ∙ ap (λ gs. tested_shape test (onto gs (rest body t' m)) before.items) (sym empty)))));
       helpers_are = λ body inner.
           let behind : List PredTree = units_helpers t' as_it_is i us body inner in
-          ap (λ o. old ++ unit_helpers o (λ e. iterated_helpers t now i u us e (collection_helpers t u) (units_helpers (elements_of t (iterator_loop t now i u us e) u e) as_it_is i us body inner)
+          ap (λ o. old ++ unit_helpers o (λ e. iterated_helpers (iterator_text t now i u us e) (collection_helpers t u) (units_helpers (elements_of t (iterator_loop t now i u us e) u e) as_it_is i us body inner)
           (units (elements_of t (iterator_loop t now i u us e) u e) as_it_is i us body)) (goal_helpers t u ++ units_helpers (behind_exp t u) as_it_is i us body inner)) is
           ∙ (ap (λ z. old ++ (goal_helpers t u ++ units_helpers z as_it_is i us body inner)) (sym go)
           ∙ (sym (append_assoc old (goal_helpers t u) behind) ∙ (ap (λ ps. ps ++ behind) (sym put) ∙ ap (λ ps. new ++ ps) (sym (append-nil behind)))));
@@ -147,10 +147,10 @@ step-iterator i t t' now u us goals ms m p r gs ns more old new it gone go start
     let whole : loop_of p.whole ≡ l = it.plan.whole it.iterates in
     let site-is : t' ≡ elements_of t l u e = go ∙ (it.plan.site ∙ ap (λ w. elements_of t w u e) whole) in
     let slots-are : m ≡ turn_slots l (slot_pattern e []) = start ∙ (it.plan.slots ∙ ap (λ w. turn_slots w (slot_pattern e [])) whole) in
-    let there : Loop → SlotGoals = λ w. gone_over (is_range u) t.filled t.before w (bounds_of t u) (collection_of t u) ms in
+    let there : Loop → SlotGoals = λ w. gone_over (is_range u) t w (bounds_of t u) (collection_of t u) ms in
     record {
       goals_are = λ body.
-          ap (λ o. onto goals (unit_goals o (λ f ks. gone_over (is_range u) t.filled t.before (iterator_loop t now i u us f) (bounds_of t u) (collection_of t u) ks) (λ ks. tested (goal_of t u ks) (λ js. units (behind_exp t u) as_it_is i us body js)) ms)) it.iterates
+          ap (λ o. onto goals (unit_goals o (λ f ks. gone_over (is_range u) t (iterator_loop t now i u us f) (bounds_of t u) (collection_of t u) ks) (λ ks. tested (goal_of t u ks) (λ js. units (behind_exp t u) as_it_is i us body js)) ms)) it.iterates
           ∙ (ap (λ w. onto goals (there w)) (sym whole)
           ∙ (ap (λ hs. lowered hs (there (loop_of p.whole)).names) (sym gone.put.goals) ∙ ap (λ ks. lowered gs.items ks) (sym gone.put.names)));
       helpers_are = λ body inner.
@@ -160,7 +160,7 @@ step-iterator i t t' now u us goals ms m p r gs ns more old new it gone go start
           let pattern-is : SlotPattern = element_pattern p.element in
           let name : List ℕ = turn_name t i u us in
           let own : List PredTree = own_of (Iterator (opened_by p r gs ns)) (turn m) in
-          ap (λ o. old ++ unit_helpers o (λ f. iterated_helpers t now i u us f over (units_helpers (elements_of t (iterator_loop t now i u us f) u f) as_it_is i us body inner)
+          ap (λ o. old ++ unit_helpers o (λ f. iterated_helpers (iterator_text t now i u us f) over (units_helpers (elements_of t (iterator_loop t now i u us f) u f) as_it_is i us body inner)
           (units (elements_of t (iterator_loop t now i u us f) u f) as_it_is i us body)) (goal_helpers t u ++ units_helpers (behind_exp t u) as_it_is i us body inner)) it.iterates
           ∙ (ap (λ z. old ++ (over ++ (units_helpers z as_it_is i us body inner ++ own_helpers (is_range u) name l e (units z as_it_is i us body)))) (sym site-is)
           ∙ (ap (λ ps. old ++ (over ++ (behind ++ ps)))

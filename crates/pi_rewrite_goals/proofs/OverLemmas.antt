@@ -105,8 +105,8 @@ pub over-collection : (t : Site) (one two : Names) (l : Loop) (u : ExpTree) (v :
 over-collection t one two l u v ns ms us vs ks old a b new first second start finds found put = record {
   is = sym found.ranges;
   put =
-      goals-as (gone_over (is_range u) t.filled t.before l (bounds_of t u) (collection_of t u) ns) (iterator_goals t.filled t.before l (collection_of t u) ns) old new ks
-      (ap (λ r. gone_over r t.filled t.before l (bounds_of t u) (collection_of t u) ns) found.ranges)
+      goals-as (gone_over (is_range u) t l (bounds_of t u) (collection_of t u) ns) (iterator_goals t.filled t.before l (collection_of t u) ns) old new ks
+      (ap (λ r. gone_over r t l (bounds_of t u) (collection_of t u) ns) found.ranges)
       (iterator-whole t.filled t.before l (collection_of t u) ns ms us vs ks old a b new v (started-as t.filled one t.before ns ms old a first start) (finds ∙ ap (λ w. only w ms) second) found.value put);
 }
 
@@ -116,8 +116,8 @@ pub over-range : (t : Site) (one two : Names) (l : Loop) (u : ExpTree) (r : Boun
 over-range t one two l u r ns ms us vs ks old a b new first second start finds found put = record {
   is = sym found.ranges;
   put =
-      goals-as (gone_over (is_range u) t.filled t.before l (bounds_of t u) (collection_of t u) ns) (range_goals t.filled t.before l (bounds_of t u) ns) old new ks
-      (ap (λ r. gone_over r t.filled t.before l (bounds_of t u) (collection_of t u) ns) found.ranges)
+      goals-as (gone_over (is_range u) t l (bounds_of t u) (collection_of t u) ns) (range_goals t.filled t.before l (bounds_of t u) ns) old new ks
+      (ap (λ r. gone_over r t l (bounds_of t u) (collection_of t u) ns) found.ranges)
       (range-whole t.filled t.before l (bounds_of t u) ns ms us vs ks old a b new r.low r.step r.high (started-as t.filled one t.before ns ms old a first start) (finds ∙ ap (λ w. only w ms) second) found.bounds put);
 }
 

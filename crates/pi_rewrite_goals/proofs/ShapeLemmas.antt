@@ -15,17 +15,18 @@ use Rattle.pi_rewrite_spec.specs.Sites.{Site}
 use Rattle.pi_rewrite_spec.specs.Loops.{as_it_is}
 use Rattle.pi_rewrite_spec.specs.Written.{inner_of}
 use Rattle.pi_rewrite_sites.proofs.NowTrees.{range-now, range_by-now}
-use Rattle.pi_rewrite_goals.specs.Lowering.{Puts, Gives}
+use Rattle.pi_rewrite_goals.specs.Lowering.{Puts, Gives, so_far}
 use Rattle.pi_rewrite_goals.specs.Shapes.{IsStepped}
 use Rattle.pi_rewrite_goals.specs.Opening.{Iterates, HasBegun, Gathers, IsGathering}
 use Rattle.pi_rewrite_goals.specs.declared.whole.Iterating.{Iterating}
 use Rattle.pi_rewrite_goals.specs.declared.whole.Comprehension.{Comprehension}
+use Rattle.pi_rewrite_loops.specs.Helpers.{lowered}
 
-pub put-as : (s : Site) (e f : ExpTree) (ns m : SlotNames) (old new : List GoalTree) (before all : List CorePred) → e ≡ f → Puts s f ns old new m before all → Puts s e ns old new m before all
-put-as s e f ns m old new before all is = subst (λ x. Puts s x ns old new m before all) (sym is)
+pub put-as : (s : Site) (e f : ExpTree) (ns m : SlotNames) (old new : List GoalTree) (before all : List CorePred) → e ≡ f → Puts s f (so_far ns old before) (so_far m new all) → Puts s e (so_far ns old before) (so_far m new all)
+put-as s e f ns m old new before all is = subst (λ x. Puts s x (so_far ns old before) (so_far m new all)) (sym is)
 
-pub gives-as : (s : Site) (e f : ExpTree) (ns m : SlotNames) (old new : List GoalTree) (t : Tree) (before all : List CorePred) → e ≡ f → Gives s f ns old new t m before all → Gives s e ns old new t m before all
-gives-as s e f ns m old new t before all is = subst (λ x. Gives s x ns old new t m before all) (sym is)
+pub gives-as : (s : Site) (e f : ExpTree) (ns m : SlotNames) (old new : List GoalTree) (t : Tree) (before all : List CorePred) → e ≡ f → Gives s f t (so_far ns old before) (so_far m new all) → Gives s e t (so_far ns old before) (so_far m new all)
+gives-as s e f ns m old new t before all is = subst (λ x. Gives s x t (so_far ns old before) (so_far m new all)) (sym is)
 
 no-step : (a b x y z : ExpTree) → range a b ≡ range_by x y z → ⊥
 no-step a b x y z e = absurd cc
@@ -45,10 +46,10 @@ pub begun-of : (s : Site) (x e : ExpTree) (us : ExpTrees) (ns : SlotNames) (b : 
 unfolding HasBegun
 begun-of s x e us ns b ms is = subst (λ z. HasBegun s z ns b ms) is
 
-pub is-gathering : (s : Site) (x e : ExpTree) (us : ExpTrees) (is_array : Bool) (ns : SlotNames) (old : List GoalTree) (c : Comprehension) (ms : SlotNames) (new : List GoalTree) → x ≡ ExpTree.collect is_array e us → Gathers s e us is_array ns old c ms new → IsGathering s x ns old c ms new
+pub is-gathering : (s : Site) (x e : ExpTree) (us : ExpTrees) (is_array : Bool) (ns : SlotNames) (old : List GoalTree) (c : Comprehension) (ms : SlotNames) (new : List GoalTree) → x ≡ ExpTree.collect is_array e us → Gathers s e us is_array ns old c ms new → IsGathering s x (lowered old ns) c (lowered new ms)
 unfolding IsGathering
-is-gathering s x e us is_array ns old c ms new is = subst (λ z. IsGathering s z ns old c ms new) (sym is)
+is-gathering s x e us is_array ns old c ms new is = subst (λ z. IsGathering s z (lowered old ns) c (lowered new ms)) (sym is)
 
-pub gathers-of : (s : Site) (x e : ExpTree) (us : ExpTrees) (is_array : Bool) (ns : SlotNames) (old : List GoalTree) (c : Comprehension) (ms : SlotNames) (new : List GoalTree) → x ≡ ExpTree.collect is_array e us → IsGathering s x ns old c ms new → Gathers s e us is_array ns old c ms new
+pub gathers-of : (s : Site) (x e : ExpTree) (us : ExpTrees) (is_array : Bool) (ns : SlotNames) (old : List GoalTree) (c : Comprehension) (ms : SlotNames) (new : List GoalTree) → x ≡ ExpTree.collect is_array e us → IsGathering s x (lowered old ns) c (lowered new ms) → Gathers s e us is_array ns old c ms new
 unfolding IsGathering
-gathers-of s x e us is_array ns old c ms new is = subst (λ z. IsGathering s z ns old c ms new) is
+gathers-of s x e us is_array ns old c ms new is = subst (λ z. IsGathering s z (lowered old ns) c (lowered new ms)) is

@@ -23,12 +23,21 @@ pub record With (Is : Type 0) (old new : List CorePred) (hs : List PredTree) : T
   pub is : Is
   pub helpers : map pred_tree new ≡ map pred_tree old ++ hs
 
--- what a goal and an expression with a call come to, behind the goals before
-abbrev pub Puts : Site → ExpTree → SlotNames → List GoalTree → List GoalTree → SlotNames → List CorePred → List CorePred → Type 0
-Puts s e ns old new ms before all = With (AreGoals (goal_of s e ns) old new ms) before all (goal_helpers s e)
+-- what is lowered so far: the slots that there are, the goals, and the helpers of loops
+pub record SoFar (H : Type 0) : Type 0 where
+  pub slots : SlotNames
+  pub goals : List GoalTree
+  pub helpers : List H
 
-abbrev pub Gives : Site → ExpTree → SlotNames → List GoalTree → List GoalTree → Tree → SlotNames → List CorePred → List CorePred → Type 0
-Gives s e ns old new t ms before all = With (IsValue (made s e ns) old new t ms) before all (value_helpers s e)
+abbrev pub so_far : {H : Type 0} → SlotNames → List GoalTree → List H → SoFar H
+so_far ns goals hs = record { slots = ns; goals = goals; helpers = hs }
+
+-- what a goal and an expression with a call come to, behind the goals before
+abbrev pub Puts : Site → ExpTree → SoFar CorePred → SoFar CorePred → Type 0
+Puts s e old new = With (AreGoals (goal_of s e old.slots) old.goals new.goals new.slots) old.helpers new.helpers (goal_helpers s e)
+
+abbrev pub Gives : Site → ExpTree → Tree → SoFar CorePred → SoFar CorePred → Type 0
+Gives s e t old new = With (IsValue (made s e old.slots) old.goals new.goals t new.slots) old.helpers new.helpers (value_helpers s e)
 
 -- an expression as the last one that is evaluated
 abbrev pub value_of : Site → ExpTree → SlotNames → SlotValue

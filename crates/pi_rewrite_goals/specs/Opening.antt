@@ -19,17 +19,18 @@ use Rattle.pi_rewrite_loops.specs.Helpers.{ending_of, lowered}
 use Rattle.pi_rewrite_loops.specs.declared.loops.Loop.{Loop}
 use Rattle.pi_rewrite_goals.specs.Planned.{inner_in, IsPlanned}
 use Rattle.pi_rewrite_goals.specs.Opened.{all_around, all_own, StepTo}
-use Rattle.pi_rewrite_goals.specs.Started.{Begins, Ends}
+use Rattle.pi_rewrite_goals.specs.Started.{Begins, Ends, loop_text, turns_at}
 use Rattle.pi_rewrite_goals.specs.declared.inner.Planned.{Planned}
 use Rattle.pi_rewrite_goals.specs.declared.opened.Open.{Open}
 use Rattle.pi_rewrite_goals.specs.declared.whole.Iterating.{Iterating}
 use Rattle.pi_rewrite_goals.specs.declared.whole.Comprehension.{Comprehension}
 use Rattle.pi_rewrite_goals.specs.declared.whole.Around.{Around}
+use Rattle.pi_rewrite_goals.specs.Lowering.{so_far}
 
 -- a loop has begun
 pub record Iterates (s : Site) (ending : Ending) (kept : Names) (i : Inner) (us : ExpTrees) (old : SlotNames) (b : Iterating) (new : SlotNames) : Type 0 where
   pub inner : inner_in b.inner ≡ i
-  pub begins : Begins b.whole s ending kept i us old (site_of b.inside.site) (ending_of b.ending) b.inside.goals.items b.inside.slots new
+  pub begins : Begins b.whole (loop_text s ending kept i us) old (turns_at (site_of b.inside.site) (ending_of b.ending) b.inside.goals.items b.inside.slots) new
 
 -- it is this loop
 unfoldable pub HasBegun : Site → ExpTree → SlotNames → Iterating → SlotNames → Type 0
@@ -47,7 +48,7 @@ pub record EndsLoop (w : Option Loop) (s : Site) (os : List Open) (g : SlotGoals
   pub owned : List PredTree
   pub closes : lowered turn slots ≡ all_around os g
   pub owns : owned ≡ hs ++ all_own os g
-  pub ends : Ends w s turn slots ns old new ms owned all
+  pub ends : Ends w s (lowered turn slots) (so_far ns old owned) (so_far ms new all)
 
 -- ---- comprehensions
 
@@ -59,12 +60,12 @@ pub record Gathers (s : Site) (e : ExpTree) (es : ExpTrees) (is_array : Bool) (n
   pub site : site_of c.around.site ≡ gathered_at s
   pub starts : AreGoals (goals_before (started s.filled s.before ns)) old first ms
   pub has_begun : AreGoals (begun ms) first new within
-  pub begins : Begins c.around.whole (site_of c.around.site) (in_order is_array) (hidden ∷ []) (gathering e) es within (site_of c.inside.site) (ending_of c.ending) c.inside.goals.items c.inside.slots c.around.slots
+  pub begins : Begins c.around.whole (loop_text (site_of c.around.site) (in_order is_array) (hidden ∷ []) (gathering e) es) within (turns_at (site_of c.inside.site) (ending_of c.ending) c.inside.goals.items c.inside.slots) c.around.slots
 
 -- it is this comprehension
-unfoldable pub IsGathering : Site → ExpTree → SlotNames → List GoalTree → Comprehension → SlotNames → List GoalTree → Type 0
-IsGathering s (collect is_array e us) ns old c ms new = Gathers s e us is_array ns old c ms new
-IsGathering s e ns old c ms new = ⊤
+unfoldable pub IsGathering : Site → ExpTree → SlotGoals → Comprehension → SlotGoals → Type 0
+IsGathering s (collect is_array e us) old c new = Gathers s e us is_array old.names old.goals c new.names new.goals
+IsGathering s e old c new = ⊤
 
 -- an item is gathered, the loop ends, and the slot with what was gathered is the value
 pub record EndsGathering (a : Around) (os : List Open) (item : Tree) (mid : List GoalTree) (l ms : SlotNames) (old : List GoalTree) (list : Tree) (new : List GoalTree) (end : SlotNames) (hs all : List PredTree) : Type 0 where

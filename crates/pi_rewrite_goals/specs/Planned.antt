@@ -5,6 +5,7 @@ use Rattle.pi_syntax.specs.ExpTree.{ExpTree, ExpTrees}
 use Rattle.pi_meaning.specs.OverNames.Texts.{Names, iterated, occurring_all, patterns_of, without, shared_names}
 use Rattle.pi_rewrite_spec.specs.Slots.{SlotNames}
 use Rattle.pi_rewrite_spec.specs.Values.{slot_pattern}
+use Rattle.pi_rewrite_spec.specs.Goals.{SlotGoals}
 use Rattle.pi_rewrite_spec.specs.Sites.{Site}
 use Rattle.pi_rewrite_spec.specs.Loops.{Ending, Loop}
 use Rattle.pi_rewrite_spec.specs.Iterators.{turn_slots}
@@ -58,11 +59,11 @@ pub record IsCollectionOver (t : Tree) (s : Site) (u : ExpTree) (ns : SlotNames)
   pub ranges : is_range u ≡ false
   pub value : IsValue (collection_of s u ns) old new t ms
 
-abbrev pub IsOver : Over → Site → ExpTree → SlotNames → List GoalTree → List GoalTree → SlotNames → Type 0
-IsOver (Range b) s u ns old new ms = IsRangeOver b s u ns old new ms
-IsOver (Collection t) s u ns old new ms = IsCollectionOver t s u ns old new ms
+abbrev pub IsOver : Over → Site → ExpTree → SlotGoals → SlotGoals → Type 0
+IsOver (Range b) s u old new = IsRangeOver b s u old.names old.goals new.goals new.names
+IsOver (Collection t) s u old new = IsCollectionOver t s u old.names old.goals new.goals new.names
 
 -- the iterator where it stands
 pub record IsGoneOver (ranges : Bool) (s : Site) (l : Loop) (u : ExpTree) (ns : SlotNames) (old new : List GoalTree) (ms : SlotNames) : Type 0 where
   pub is : ranges ≡ is_range u
-  pub put : AreGoals (gone_over (is_range u) s.filled s.before l (bounds_of s u) (collection_of s u) ns) old new ms
+  pub put : AreGoals (gone_over (is_range u) s l (bounds_of s u) (collection_of s u) ns) old new ms

@@ -9,7 +9,7 @@ ghost use Rattle.pi_rewrite_spec.specs.Written.{goal_of, all_of};
 ghost use Rattle.pi_rewrite_spec.specs.Helpers.{goal_helpers, conjunct_helpers, branch_helpers};
 ghost use Rattle.pi_rewrite_sites.specs.SiteOf.{site_of};
 ghost use Rattle.pi_rewrite_loops.specs.Parts.{AreGoals, IsAlone};
-ghost use Rattle.pi_rewrite_goals.specs.Lowering.{With, Puts};
+ghost use Rattle.pi_rewrite_goals.specs.Lowering.{With, Puts, so_far};
 ghost use Rattle.pi_rewrite_goals.specs.Shapes.{IsIf, IsArrow};
 ghost use Rattle.pi_rewrite_goals.specs.Joined.{chosen as chosen_of, IsBranch, AreBranches, AreConditions};
 
@@ -97,8 +97,8 @@ fn push_any<'a>(
     goals: &mut Vec<CoreGoal>,
     helpers: &mut Vec<CorePred>,
 ) -> Result<(), AllocError>
-    ensures { IfOk result (λ _. Puts (site_of site.now)
-        (any (exps_of exps.now)) slots.old goals.old.items goals.new.items slots.new helpers.old.items helpers.new.items) }
+    ensures { IfOk result (λ _. Puts (site_of site.now) (any (exps_of exps.now))
+        (so_far slots.old goals.old.items helpers.old.items) (so_far slots.new goals.new.items helpers.new.items)) }
 {
     let branches = branches(alloc, site, exps, slots, helpers)?;
     push_made(closed(alloc, branches), goals)
@@ -114,8 +114,8 @@ fn push_if<'a>(
     goals: &mut Vec<CoreGoal>,
     helpers: &mut Vec<CorePred>,
 ) -> Result<(), AllocError>
-    ensures { IfOk result (λ _. IsIf exp.now → Puts (site_of site.now)
-        (exp_tree exp.now) slots.old goals.old.items goals.new.items slots.new helpers.old.items helpers.new.items) }
+    ensures { IfOk result (λ _. IsIf exp.now → Puts (site_of site.now) (exp_tree exp.now)
+        (so_far slots.old goals.old.items helpers.old.items) (so_far slots.new goals.new.items helpers.new.items)) }
 {
     match exp {
         Exp::If(parts, other) => match other {
@@ -155,8 +155,8 @@ fn push_aside<'a>(
     helpers: &mut Vec<CorePred>,
 ) -> Result<(), AllocError>
     ensures { IfOk result (λ _. IsArrow exp.now →
-        Puts (site_of site.now) (exp_tree exp.now) slots.old goals.old.items goals.new.items slots.new helpers.old.items
-        helpers.new.items) }
+        Puts (site_of site.now) (exp_tree exp.now)
+        (so_far slots.old goals.old.items helpers.old.items) (so_far slots.new goals.new.items helpers.new.items)) }
 {
     match exp {
         Exp::Arrow(test, body) => {

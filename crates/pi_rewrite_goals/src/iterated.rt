@@ -5,9 +5,10 @@ ghost use Rattle.pi_syntax.specs.ExpLists.{exps_of};
 ghost use Rattle.pi_rewrite_spec.specs.Written.{gathered_at as gathered_by};
 ghost use Rattle.pi_rewrite_slots.specs.Indexed.{names_in};
 ghost use Rattle.pi_rewrite_sites.specs.SiteOf.{site_of};
-ghost use Rattle.pi_rewrite_loops.specs.Helpers.{ending_of};
+ghost use Rattle.pi_rewrite_loops.specs.Helpers.{ending_of, lowered};
 ghost use Rattle.pi_rewrite_goals.specs.Planned.{inner_in};
-ghost use Rattle.pi_rewrite_goals.specs.Started.{IsStart, Ends};
+ghost use Rattle.pi_rewrite_goals.specs.Started.{IsStart, Ends, loop_text};
+ghost use Rattle.pi_rewrite_goals.specs.Lowering.{so_far};
 
 use crate::inner::{Inner, start_loop};
 use crate::opened::Inside;
@@ -39,8 +40,8 @@ pub fn begin<'a>(
     units: &'a [Exp],
     slots: &mut Slots<'a>,
 ) -> Result<Start<'a>, AllocError>
-    ensures { IfOk result (λ made. IsStart (site_of site.now) (ending_of ending) (names_in kept.now) (inner_in inner.now)
-        (exps_of units.now) slots.old made slots.new) }
+    ensures { IfOk result (λ made. IsStart (loop_text (site_of site.now) (ending_of ending) (names_in kept.now) (inner_in inner.now)
+        (exps_of units.now)) slots.old made slots.new) }
 {
     if begins_with_iterator(units) {
         let here = site.copy(alloc)?;
@@ -87,8 +88,9 @@ pub fn finish<'a>(
     goals: &mut Vec<CoreGoal>,
     helpers: &mut Vec<CorePred>,
 ) -> Result<(), AllocError>
-    ensures { IfOk result (λ _. Ends whole.now (site_of site.now) turn.old.goals.items turn.old.slots slots.old goals.old.items
-        goals.new.items slots.new (map pred_tree helpers.old.items) (map pred_tree helpers.new.items)) }
+    ensures { IfOk result (λ _. Ends whole.now (site_of site.now)
+        (lowered turn.old.goals.items turn.old.slots) (so_far slots.old goals.old.items (map pred_tree helpers.old.items))
+        (so_far slots.new goals.new.items (map pred_tree helpers.new.items))) }
 {
     let mut more = mem::replace(&mut turn.goals, Vec::new(alloc));
     match whole {

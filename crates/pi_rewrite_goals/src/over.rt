@@ -5,7 +5,7 @@ ghost use Rattle.pi_syntax.specs.ExpTree.{ExpTree, ExpTrees, exp_tree, call, exp
 ghost use Rattle.pi_syntax.specs.ExpLists.{exps_of};
 ghost use Rattle.pi_rewrite_spec.specs.Helpers.{collection_helpers};
 ghost use Rattle.pi_rewrite_sites.specs.SiteOf.{site_of};
-ghost use Rattle.pi_rewrite_loops.specs.Helpers.{loop_of};
+ghost use Rattle.pi_rewrite_loops.specs.Helpers.{loop_of, lowered};
 ghost use Rattle.pi_rewrite_goals.specs.Planned.{IsOver, IsGoneOver};
 ghost use Rattle.pi_rewrite_goals.specs.Lowering.{With};
 ghost use Rattle.pi_rewrite_goals.specs.Shapes.{IsSpan, IsStepped};
@@ -60,8 +60,8 @@ fn over_unit<'a>(
     goals: &mut Vec<CoreGoal>,
     helpers: &mut Vec<CorePred>,
 ) -> Result<Over, AllocError>
-    ensures { IfOk result (λ over. With (IsOver over (site_of site.now)
-        (exp_tree unit.now) slots.old goals.old.items goals.new.items slots.new) helpers.old.items helpers.new.items
+    ensures { IfOk result (λ over. With (IsOver over (site_of site.now) (exp_tree unit.now)
+        (lowered goals.old.items slots.old) (lowered goals.new.items slots.new)) helpers.old.items helpers.new.items
         (collection_helpers (site_of site.now) (exp_tree unit.now))) }
 {
     match unit {
@@ -84,7 +84,8 @@ fn over_args<'a>(
     helpers: &mut Vec<CorePred>,
 ) -> Result<Over, AllocError>
     ensures { IfOk result (λ over. (name : List ℕ) →
-        With (IsOver over (site_of site.now) (call name (exps_of args.now)) slots.old goals.old.items goals.new.items slots.new)
+        With (IsOver over (site_of site.now) (call name (exps_of args.now))
+        (lowered goals.old.items slots.old) (lowered goals.new.items slots.new))
         helpers.old.items helpers.new.items (collection_helpers (site_of site.now) (call name (exps_of args.now)))) }
 {
     if args.len() < 2 {
@@ -105,8 +106,8 @@ fn over_exp<'a>(
     helpers: &mut Vec<CorePred>,
 ) -> Result<Over, AllocError>
     ensures { IfOk result (λ over. (name : List ℕ) (e : ExpTree) (es : ExpTrees) →
-        With (IsOver over (site_of site.now) (call name (first_exp e (first_exp (exp_tree exp.now) es))) slots.old goals.old.items
-        goals.new.items slots.new) helpers.old.items helpers.new.items
+        With (IsOver over (site_of site.now) (call name (first_exp e (first_exp (exp_tree exp.now) es)))
+        (lowered goals.old.items slots.old) (lowered goals.new.items slots.new)) helpers.old.items helpers.new.items
         (collection_helpers (site_of site.now) (call name (first_exp e (first_exp (exp_tree exp.now) es))))) }
 {
     match exp {
@@ -129,8 +130,8 @@ fn over_range<'a>(
     helpers: &mut Vec<CorePred>,
 ) -> Result<Over, AllocError>
     ensures { IfOk result (λ over. IsSpan exp.now → (name : List ℕ) (e : ExpTree) (es : ExpTrees) →
-        With (IsOver over (site_of site.now) (call name (first_exp e (first_exp (exp_tree exp.now) es))) slots.old goals.old.items
-        goals.new.items slots.new) helpers.old.items helpers.new.items
+        With (IsOver over (site_of site.now) (call name (first_exp e (first_exp (exp_tree exp.now) es)))
+        (lowered goals.old.items slots.old) (lowered goals.new.items slots.new)) helpers.old.items helpers.new.items
         (collection_helpers (site_of site.now) (call name (first_exp e (first_exp (exp_tree exp.now) es))))) }
 {
     match exp {
@@ -167,8 +168,8 @@ fn over_steps<'a>(
     helpers: &mut Vec<CorePred>,
 ) -> Result<Over, AllocError>
     ensures { IfOk result (λ over. IsStepped exp.now → (name : List ℕ) (e : ExpTree) (es : ExpTrees) →
-        With (IsOver over (site_of site.now) (call name (first_exp e (first_exp (exp_tree exp.now) es))) slots.old goals.old.items
-        goals.new.items slots.new) helpers.old.items helpers.new.items
+        With (IsOver over (site_of site.now) (call name (first_exp e (first_exp (exp_tree exp.now) es)))
+        (lowered goals.old.items slots.old) (lowered goals.new.items slots.new)) helpers.old.items helpers.new.items
         (collection_helpers (site_of site.now) (call name (first_exp e (first_exp (exp_tree exp.now) es))))) }
 {
     match exp {

@@ -11,9 +11,10 @@ ghost use Rattle.pi_rewrite_spec.specs.Written.{values_in};
 ghost use Rattle.pi_rewrite_spec.specs.Helpers.{all_helpers};
 ghost use Rattle.pi_rewrite_sites.specs.SiteOf.{site_of};
 ghost use Rattle.pi_rewrite_loops.specs.Parts.{IsValue};
-ghost use Rattle.pi_rewrite_goals.specs.Lowering.{With, Gives};
+ghost use Rattle.pi_rewrite_goals.specs.Lowering.{With, Gives, so_far};
 ghost use Rattle.pi_rewrite_goals.specs.Shapes.{IsList, IsIndex, IsSpan, IsStepped, IsCollected};
 ghost use Rattle.pi_rewrite_goals.specs.Opening.{IsGathering};
+ghost use Rattle.pi_rewrite_loops.specs.Helpers.{lowered};
 
 use crate::slotted::{applied_to_three, applied_to_two};
 use crate::units::open_units;
@@ -37,8 +38,8 @@ pub(crate) fn listed<'a>(
     helpers: &mut Vec<CorePred>,
 ) -> Result<Term, AllocError>
     ensures { IfOk result (λ term. IsList exp.now →
-        Gives (site_of site.now) (exp_tree exp.now) slots.old goals.old.items goals.new.items term slots.new helpers.old.items
-        helpers.new.items) }
+        Gives (site_of site.now) (exp_tree exp.now) term
+        (so_far slots.old goals.old.items helpers.old.items) (so_far slots.new goals.new.items helpers.new.items)) }
 {
     match exp {
         Exp::List(items, tail) => match tail {
@@ -64,9 +65,8 @@ fn list_of<'a>(
     goals: &mut Vec<CoreGoal>,
     helpers: &mut Vec<CorePred>,
 ) -> Result<Term, AllocError>
-    ensures { IfOk result (λ term. Gives (site_of site.now)
-        (list_tree (exps_of exps.now)) slots.old goals.old.items goals.new.items term slots.new helpers.old.items
-        helpers.new.items) }
+    ensures { IfOk result (λ term. Gives (site_of site.now) (list_tree (exps_of exps.now)) term
+        (so_far slots.old goals.old.items helpers.old.items) (so_far slots.new goals.new.items helpers.new.items)) }
 {
     let parts = values(alloc, true, site, exps, slots, goals, helpers)?;
     let rest = Term::atom(alloc, "[]")?;
@@ -83,9 +83,8 @@ pub(crate) fn array_of<'a>(
     goals: &mut Vec<CoreGoal>,
     helpers: &mut Vec<CorePred>,
 ) -> Result<Term, AllocError>
-    ensures { IfOk result (λ term. Gives (site_of site.now)
-        (array_tree (exps_of exps.now)) slots.old goals.old.items goals.new.items term slots.new helpers.old.items
-        helpers.new.items) }
+    ensures { IfOk result (λ term. Gives (site_of site.now) (array_tree (exps_of exps.now)) term
+        (so_far slots.old goals.old.items helpers.old.items) (so_far slots.new goals.new.items helpers.new.items)) }
 {
     let parts = values(alloc, true, site, exps, slots, goals, helpers)?;
     Term::comp(alloc, "{}", &parts)
@@ -102,8 +101,8 @@ pub(crate) fn indexed<'a>(
     helpers: &mut Vec<CorePred>,
 ) -> Result<Term, AllocError>
     ensures { IfOk result (λ term. IsIndex exp.now →
-        Gives (site_of site.now) (exp_tree exp.now) slots.old goals.old.items goals.new.items term slots.new helpers.old.items
-        helpers.new.items) }
+        Gives (site_of site.now) (exp_tree exp.now) term
+        (so_far slots.old goals.old.items helpers.old.items) (so_far slots.new goals.new.items helpers.new.items)) }
 {
     match exp {
         Exp::Index(of, places) => {
@@ -170,8 +169,8 @@ pub(crate) fn ranged<'a>(
     helpers: &mut Vec<CorePred>,
 ) -> Result<Term, AllocError>
     ensures { IfOk result (λ term. IsSpan exp.now →
-        Gives (site_of site.now) (exp_tree exp.now) slots.old goals.old.items goals.new.items term slots.new helpers.old.items
-        helpers.new.items) }
+        Gives (site_of site.now) (exp_tree exp.now) term
+        (so_far slots.old goals.old.items helpers.old.items) (so_far slots.new goals.new.items helpers.new.items)) }
 {
     match exp {
         Exp::Range(first, step, last) => match step {
@@ -199,8 +198,8 @@ fn stepped<'a>(
     helpers: &mut Vec<CorePred>,
 ) -> Result<Term, AllocError>
     ensures { IfOk result (λ term. IsStepped exp.now →
-        Gives (site_of site.now) (exp_tree exp.now) slots.old goals.old.items goals.new.items term slots.new helpers.old.items
-        helpers.new.items) }
+        Gives (site_of site.now) (exp_tree exp.now) term
+        (so_far slots.old goals.old.items helpers.old.items) (so_far slots.new goals.new.items helpers.new.items)) }
 {
     match exp {
         Exp::Range(first, step, last) => match step {
@@ -231,8 +230,8 @@ pub(crate) fn collected<'a>(
     helpers: &mut Vec<CorePred>,
 ) -> Result<Term, AllocError>
     ensures { IfOk result (λ term. IsCollected exp.now →
-        Gives (site_of site.now) (exp_tree exp.now) slots.old goals.old.items goals.new.items term slots.new helpers.old.items
-        helpers.new.items) }
+        Gives (site_of site.now) (exp_tree exp.now) term
+        (so_far slots.old goals.old.items helpers.old.items) (so_far slots.new goals.new.items helpers.new.items)) }
 {
     match exp {
         Exp::Collect(is_array, item, units) => {
@@ -257,8 +256,8 @@ fn gather<'a>(
     helpers: &mut Vec<CorePred>,
 ) -> Result<Term, AllocError>
     ensures { IfOk result (λ term. IsCollected exp.now → (s : SiteOf) (ns : SlotNames) (before : List GoalTree) →
-        IsGathering s (exp_tree exp.now) ns before begun.old slots.old goals.old.items →
-        Gives s (exp_tree exp.now) ns before goals.new.items term slots.new helpers.old.items helpers.new.items) }
+        IsGathering s (exp_tree exp.now) (lowered before ns) begun.old (lowered goals.old.items slots.old) →
+        Gives s (exp_tree exp.now) term (so_far ns before helpers.old.items) (so_far slots.new goals.new.items helpers.new.items)) }
 {
     match exp {
         Exp::Collect(_, item, units) => {

@@ -3,7 +3,7 @@ ghost use Rattle.std.specs.Prelude.{IfOk};
 ghost use Rattle.pi_syntax.specs.ExpTree.{exp_tree};
 ghost use Rattle.pi_rewrite_spec.specs.Slots.{SlotNames};
 ghost use Rattle.pi_rewrite_sites.specs.SiteOf.{site_of};
-ghost use Rattle.pi_rewrite_goals.specs.Lowering.{Puts};
+ghost use Rattle.pi_rewrite_goals.specs.Lowering.{Puts, so_far};
 ghost use Rattle.pi_rewrite_goals.specs.Shapes.{IsForeach, IsWhile, IsDo};
 ghost use Rattle.pi_rewrite_goals.specs.Opening.{HasBegun};
 
@@ -29,8 +29,8 @@ pub(crate) fn push_foreach<'a>(
     helpers: &mut Vec<CorePred>,
 ) -> Result<(), AllocError>
     ensures { IfOk result (λ _. IsForeach exp.now →
-        Puts (site_of site.now) (exp_tree exp.now) slots.old goals.old.items goals.new.items slots.new helpers.old.items
-        helpers.new.items) }
+        Puts (site_of site.now) (exp_tree exp.now)
+        (so_far slots.old goals.old.items helpers.old.items) (so_far slots.new goals.new.items helpers.new.items)) }
 {
     match exp {
         Exp::Foreach(units, body) => {
@@ -57,8 +57,8 @@ fn push_begun<'a>(
 ) -> Result<(), AllocError>
     ensures { IfOk result (λ _. IsForeach exp.now → (ns : SlotNames) →
         HasBegun (site_of site.now) (exp_tree exp.now) ns begun.old slots.old →
-        Puts (site_of site.now) (exp_tree exp.now) ns goals.old.items goals.new.items slots.new helpers.old.items
-        helpers.new.items) }
+        Puts (site_of site.now) (exp_tree exp.now)
+        (so_far ns goals.old.items helpers.old.items) (so_far slots.new goals.new.items helpers.new.items)) }
 {
     match exp {
         Exp::Foreach(units, body) => {
@@ -106,8 +106,8 @@ pub(crate) fn push_while<'a>(
     helpers: &mut Vec<CorePred>,
 ) -> Result<(), AllocError>
     ensures { IfOk result (λ _. IsWhile exp.now →
-        Puts (site_of site.now) (exp_tree exp.now) slots.old goals.old.items goals.new.items slots.new helpers.old.items
-        helpers.new.items) }
+        Puts (site_of site.now) (exp_tree exp.now)
+        (so_far slots.old goals.old.items helpers.old.items) (so_far slots.new goals.new.items helpers.new.items)) }
 {
     match exp {
         Exp::While(test, body) => {
@@ -147,8 +147,8 @@ pub(crate) fn push_do<'a>(
     goals: &mut Vec<CoreGoal>,
     helpers: &mut Vec<CorePred>,
 ) -> Result<(), AllocError>
-    ensures { IfOk result (λ _. IsDo exp.now → Puts (site_of site.now)
-        (exp_tree exp.now) slots.old goals.old.items goals.new.items slots.new helpers.old.items helpers.new.items) }
+    ensures { IfOk result (λ _. IsDo exp.now → Puts (site_of site.now) (exp_tree exp.now)
+        (so_far slots.old goals.old.items helpers.old.items) (so_far slots.new goals.new.items helpers.new.items)) }
 {
     match exp {
         Exp::DoWhile(body, test) => {

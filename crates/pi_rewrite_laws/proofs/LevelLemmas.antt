@@ -17,7 +17,7 @@ use Rattle.pi_meaning.specs.CoreMeaning.Facts as over_slots
 use Rattle.pi_meaning.specs.CoreMeaning.Facts.{fits_modes}
 use Rattle.pi_meaning.specs.OverNames.Stages.{RulesSetting}
 use Rattle.pi_meaning.specs.OverNames.Rules as over_names
-use Rattle.pi_meaning.specs.OverNames.Rules.{function_in, fact_head, is_head_of, rules_named, facts_named, functions_named, modes_named, predicate_run, functions_called, calls_by, level_for}
+use Rattle.pi_meaning.specs.OverNames.Rules.{function_in, fact_head, is_head_of, rules_named, facts_named, functions_named, modes_named, predicate_run, functions_called, calls_by, level_for, call_made}
 use Rattle.pi_rewrite_spec.specs.Clauses.{lowered_fact}
 use Rattle.pi_rewrite_spec.specs.Forms.{Knows}
 use Rattle.pi_rewrite_laws.specs.Levels.{SameCalls, SameLevels}
@@ -32,16 +32,16 @@ pub data Ordered (known : Knows) : Option Level → Option Level → Type 0 wher
 -- its facts, behind the mode lists, at any levels
 pub facts-called : (set : RulesSetting) (program : ProgramTree) (m : Level) (name : List ℕ) (ts : Trees) (s : State) (lists : List (List Mode)) (heads : List ExpTree) →
     heads ≡ facts_named name (tree_count ts) program → EachFact heads → modes_named name (tree_count ts) program ≡ Some lists →
-    over_slots.facts_called lists (map lowered_fact heads) ts s ≡ predicate_run set program m name ts s (modes_named name (tree_count ts) program)
+    over_slots.facts_called lists (map lowered_fact heads) ts s ≡ predicate_run set program name (call_made m ts s) (modes_named name (tree_count ts) program)
 facts-called set program m name ts s lists heads is each modes =
     ap (λ (t : Trace State). cond (list_any (λ ms. fits_modes (bindings s) ms ts) lists) t done) (facts-same heads each ts s)
     ∙ ap (λ (xs : List ExpTree). cond (list_any (λ ms. fits_modes (bindings s) ms ts) lists) (over_names.facts_called xs ts s) done) is
-    ∙ ap (predicate_run set program m name ts s) (sym modes)
+    ∙ ap (predicate_run set program name (call_made m ts s)) (sym modes)
 
 -- what calls of what is known do at a level above another one, whichever level their own quiet calls run at
 pub record CallsAre (known : Knows) (set : RulesSetting) (b : Builtins) (program : ProgramTree) (preds : List PredTree) (below above : Option Level) : Type 0 where
   pub called : (inner : Option Level) (name : List ℕ) (ts : Trees) (s : State) → IsTrue (known.predicate name (tree_count ts)) →
-      call_run b inner below (find_pred false name (tree_count ts) preds) ts s ≡ ticked above (λ l. predicate_run set program l name ts s (modes_named name (tree_count ts) program))
+      call_run b inner below (find_pred false name (tree_count ts) preds) ts s ≡ ticked above (λ l. predicate_run set program name (call_made l ts s) (modes_named name (tree_count ts) program))
   pub applied : (inner : Option Level) (name : List ℕ) (ts : Trees) (s : State) → IsTrue (known.function name (tree_count ts)) →
       application_run b inner below (find_pred true name (tree_count ts) preds) ts s ≡ ticked above (λ l. over_names.function_run set program l name ts s)
 

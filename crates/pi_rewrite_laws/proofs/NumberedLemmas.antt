@@ -17,7 +17,7 @@ use Rattle.pi_rewrite_spec.specs.Sites.{Site, iterator_helpers, helpers_in, help
 use Rattle.pi_rewrite_spec.specs.Loops.{Ending, as_it_is, in_order, Loop, while_helper, do_helper, only_turn_helper}
 use Rattle.pi_rewrite_spec.specs.Comprehensions.{adding}
 use Rattle.pi_rewrite_spec.specs.Written.{Inner, while_loop, do_loop, turns_of, inner_of, gathering, gathered_at, start_loop, iterator_loop, turn_name, is_range, elements_of, made, goal_of, units}
-use Rattle.pi_rewrite_spec.specs.Helpers.{own_helpers, helpers_at, goal_call_helpers, iterated_helpers, unit_helpers, started_helpers, value_helpers, all_helpers, values_helpers, goals_helpers, goal_helpers, conjunct_helpers, branch_helpers, units_helpers, collection_helpers}
+use Rattle.pi_rewrite_spec.specs.Helpers.{own_helpers, helpers_at, goal_call_helpers, iterated_helpers, unit_helpers, started_helpers, value_helpers, all_helpers, values_helpers, goals_helpers, goal_helpers, conjunct_helpers, branch_helpers, units_helpers, collection_helpers, iterator_text}
 use Rattle.pi_rewrite_spec.specs.Programs.{Naming}
 use Rattle.pi_rewrite_laws.proofs.FormCounts.{negates-one, takes-one, catches-three}
 use Rattle.pi_rewrite_laws.proofs.TextCalls.{exp_at, too-many}
@@ -150,7 +150,7 @@ goal-call-numbered known s name es goals values all (Some membership) form is va
 -- ---- loops, of what stands in them
 
 iterated-numbered : (known : Knows) (s : Site) (ending : Ending) (i : Inner) (u : ExpTree) (us : ExpTrees) (e : ExpTree) (over inside : List PredTree) (turn : SlotNames → SlotGoals) → Numbered s.called s.helpers (helpers_in u) over →
-    Numbered s.called (s.helpers + helpers_in u) (helpers_in_units us + i.count) inside → Numbered s.called s.helpers ((helpers_in u + (helpers_in_units us + 2)) + i.count) (iterated_helpers s ending i u us e over inside turn)
+    Numbered s.called (s.helpers + helpers_in u) (helpers_in_units us + i.count) inside → Numbered s.called s.helpers ((helpers_in u + (helpers_in_units us + 2)) + i.count) (iterated_helpers (iterator_text s ending i u us e) over inside turn)
 unfolding NamedFrom
 iterated-numbered known s ending i u us e over inside turn first second =
     both-numbered s.called s.helpers (helpers_in u) (s.helpers + helpers_in u) ((helpers_in_units us + i.count) + 2) ((helpers_in u + (helpers_in_units us + 2)) + i.count) over (inside ++ own) refl (omega arith) first
@@ -171,7 +171,7 @@ unit-numbered : (known : Knows) (s : Site) (ending : Ending) (i : Inner) (u : Ex
     ((e : ExpTree) → iterated u ≡ Some e → IsPattern e → collected → Numbered s.called s.helpers (helpers_in u) over) → (tests → Numbered s.called s.helpers (helpers_in u) test) →
     ((t : Site) → t.called ≡ s.called → Numbered s.called t.helpers (helpers_in_units us + i.count) (inside t)) →
     Numbered s.called s.helpers ((helpers_in u + (helpers_in_units us + iterator_helpers o)) + i.count)
-    (unit_helpers o (λ e. iterated_helpers s ending i u us e over (inside (elements_of s (iterator_loop s ending i u us e) u e)) (turn (elements_of s (iterator_loop s ending i u us e) u e))) (test ++ inside (behind_exp s u)))
+    (unit_helpers o (λ e. iterated_helpers (iterator_text s ending i u us e) over (inside (elements_of s (iterator_loop s ending i u us e) u e)) (turn (elements_of s (iterator_loop s ending i u us e) u e))) (test ++ inside (behind_exp s u)))
 unit-numbered known s ending i u us collected tests over test inside turn None is fits collection condition rest =
     both-numbered s.called s.helpers (helpers_in u) (s.helpers + helpers_in u) (helpers_in_units us + i.count) ((helpers_in u + (helpers_in_units us + 0)) + i.count) test (inside (behind_exp s u)) refl (omega arith) (condition fits) (rest (behind_exp s u) refl)
 unit-numbered known s ending i u us collected tests over test inside turn (Some e) is fits collection condition rest =

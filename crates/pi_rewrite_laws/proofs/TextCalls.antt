@@ -21,7 +21,7 @@ use Rattle.pi_rewrite_spec.specs.Goals as slots
 use Rattle.pi_rewrite_spec.specs.Goals.{SlotGoals}
 use Rattle.pi_rewrite_spec.specs.Sites.{Site, helpers_in, helpers_in_all, behind_site, behind_exp, following_sites, goal_sites, value_sites}
 use Rattle.pi_rewrite_spec.specs.Written as written
-use Rattle.pi_rewrite_spec.specs.Written.{last_one, pair_values, three_values, made, parts, arguments}
+use Rattle.pi_rewrite_spec.specs.Written.{last_one, pair_values, three_values, made, parts, arguments, ahead}
 use Rattle.pi_rewrite_spec.specs.Helpers.{helpers_at, goal_call_helpers, value_helpers, all_helpers, values_helpers, goals_helpers, goal_helpers}
 use Rattle.pi_rewrite_spec.specs.Forms.{Knows, IsTerm, AreTerms, IsFunctionCall, IsPredicateCall, IsExpression, AreExpressions, IsExpressionAt, IsGoalAt, IsGoal, IsBranch}
 use Rattle.pi_rewrite_spec.proofs.RunLemmas.{Alike, SameGoals, SameLast, SameFilled, SameArguments}
@@ -86,10 +86,10 @@ last-arguments known set b l m h alike before e is f one = first-arguments known
 
 pub pair-arguments : (known : Knows) (set : Setting) (b : Builtins) (l m : Level) (h : ℕ) → Alike known set b l m → (before : Names) (e i : ExpTree) → (is_flat e ≡ true → IsTerm e) → (is_flat i ≡ true → IsTerm i) → (f g : SlotNames → SlotValue) →
     (is_flat e ≡ false → SameFilled b l m h (value_of set plain before e) f) → (is_flat i ≡ false → SameFilled b l m h (value_of set plain (behind before (places e)) i) g) →
-    SameArguments b l m h (in_front (value_of set plain before e) (in_front (value_of set plain (behind before (places e)) i) nothing)) (pair_values h e i f g (is_flat i))
+    SameArguments b l m h (in_front (value_of set plain before e) (in_front (value_of set plain (behind before (places e)) i) nothing)) (pair_values h (ahead e f (is_flat i)) i g)
 unfolding are_flat IsTerm value_of
 pair-arguments known set b l m h alike before e i is is' f g one two =
-    subst (λ (test : Bool). SameArguments b l m h (in_front (value_of set plain before e) (in_front (value_of set plain (behind before (places e)) i) nothing)) (pair_values h e i f g test)) (and-true (is_flat i))
+    subst (λ (test : Bool). SameArguments b l m h (in_front (value_of set plain before e) (in_front (value_of set plain (behind before (places e)) i) nothing)) (pair_values h (ahead e f test) i g)) (and-true (is_flat i))
     (first-arguments known set b l m h alike before e (exp i no_exps) is (λ flat. (is' (both (is_flat i) true flat).0, tt)) f (last_one i g) (last-flat h i g) one (last-arguments known set b l m h alike (behind before (places e)) i is' g two))
 
 pub behind-behind : (before xs ys : Names) → behind (behind before xs) ys ≡ behind before (xs ++ ys)
@@ -97,23 +97,23 @@ unfolding behind
 behind-behind before [] ys = refl
 behind-behind before (x ∷ xs) ys = behind-behind (with_one before x) xs ys
 
-pub pair-flat : (h : ℕ) (e i : ExpTree) (f g : SlotNames → SlotValue) → are_flat (exp e (exp i no_exps)) ≡ true → (ms : SlotNames) → pair_values h e i f g (is_flat i) ms ≡ flat_values (slot_terms (exp e (exp i no_exps)) ms)
+pub pair-flat : (h : ℕ) (e i : ExpTree) (f g : SlotNames → SlotValue) → are_flat (exp e (exp i no_exps)) ≡ true → (ms : SlotNames) → pair_values h (ahead e f (is_flat i)) i g ms ≡ flat_values (slot_terms (exp e (exp i no_exps)) ms)
 unfolding are_flat
 pair-flat h e i f g flat ms =
-    sym (ap (λ (test : Bool). pair_values h e i f g test ms) (and-true (is_flat i))) ∙ first-flat h e (exp i no_exps) flat f (last_one i g) (last-flat h i g (both (is_flat e) (is_flat i && true) flat).1) ms
+    sym (ap (λ (test : Bool). pair_values h (ahead e f test) i g ms) (and-true (is_flat i))) ∙ first-flat h e (exp i no_exps) flat f (last_one i g) (last-flat h i g (both (is_flat e) (is_flat i && true) flat).1) ms
 
 pub three-arguments : (known : Knows) (set : Setting) (b : Builtins) (l m : Level) (h : ℕ) → Alike known set b l m → (before : Names) (first step last : ExpTree) → (is_flat first ≡ true → IsTerm first) → (is_flat step ≡ true → IsTerm step) → (is_flat last ≡ true → IsTerm last) →
     (f g k : SlotNames → SlotValue) → (is_flat first ≡ false → SameFilled b l m h (value_of set plain before first) f) → (is_flat step ≡ false → SameFilled b l m h (value_of set plain (behind before (places first)) step) g) →
     (is_flat last ≡ false → SameFilled b l m h (value_of set plain (behind before (places first ++ places step)) last) k) →
     SameArguments b l m h (in_front (value_of set plain before first) (in_front (value_of set plain (behind before (places first)) step) (in_front (value_of set plain (behind before (places first ++ places step)) last) nothing)))
-    (three_values h first step last f g k (is_flat step && is_flat last) (is_flat last))
+    (three_values h (ahead first f (is_flat step && is_flat last)) (ahead step g (is_flat last)) last k)
 unfolding are_flat IsTerm value_of
 three-arguments known set b l m h alike before first step last is is' is'' f g k one two three =
     subst (λ (test : Bool). SameArguments b l m h (in_front (value_of set plain before first) (in_front (value_of set plain (behind before (places first)) step) (in_front (value_of set plain (behind before (places first ++ places step)) last) nothing)))
-    (three_values h first step last f g k (is_flat step && test) (is_flat last))) (and-true (is_flat last))
+    (three_values h (ahead first f (is_flat step && test)) (ahead step g (is_flat last)) last k)) (and-true (is_flat last))
     (subst (λ (ns : Names). SameArguments b l m h (in_front (value_of set plain before first) (in_front (value_of set plain (behind before (places first)) step) (in_front (value_of set plain ns last) nothing)))
-    (three_values h first step last f g k (is_flat step && (is_flat last && true)) (is_flat last))) (behind-behind before (places first) (places step))
-    (first-arguments known set b l m h alike before first (exp step (exp last no_exps)) is (λ flat. (is' (both (is_flat step) (is_flat last && true) flat).0, (is'' (both (is_flat last) true (both (is_flat step) (is_flat last && true) flat).1).0, tt))) f (pair_values h step last g k (is_flat last))
+    (three_values h (ahead first f (is_flat step && (is_flat last && true))) (ahead step g (is_flat last)) last k)) (behind-behind before (places first) (places step))
+    (first-arguments known set b l m h alike before first (exp step (exp last no_exps)) is (λ flat. (is' (both (is_flat step) (is_flat last && true) flat).0, (is'' (both (is_flat last) true (both (is_flat step) (is_flat last && true) flat).1).0, tt))) f (pair_values h (ahead step g (is_flat last)) last k)
     (pair-flat h step last g k) one
     (pair-arguments known set b l m h alike (behind before (places first)) step last is' is'' g k two three-there)))
   where

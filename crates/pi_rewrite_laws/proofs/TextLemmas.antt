@@ -28,7 +28,7 @@ use Rattle.pi_rewrite_spec.specs.Sites.{Site, helpers_in, helpers_in_all, helper
 use Rattle.pi_rewrite_spec.specs.Loops.{Ending, as_it_is, in_order, Loop, loop_slots, while_helper, do_helper}
 use Rattle.pi_rewrite_spec.specs.Comprehensions.{adding}
 use Rattle.pi_rewrite_spec.specs.Written as written
-use Rattle.pi_rewrite_spec.specs.Written.{while_loop, do_loop, turns_of, pair_values, three_values, is_range, Inner, inner_of, gathering, gathered_at, start_loop, started_goals, made, parts, arguments}
+use Rattle.pi_rewrite_spec.specs.Written.{while_loop, do_loop, turns_of, pair_values, three_values, is_range, Inner, inner_of, gathering, gathered_at, start_loop, started_goals, made, parts, arguments, ahead}
 use Rattle.pi_rewrite_spec.specs.Helpers.{helpers_at, value_helpers, all_helpers, goal_helpers, conjunct_helpers, branch_helpers, units_helpers, collection_helpers}
 use Rattle.pi_rewrite_spec.specs.Forms.{IsExpression, AreExpressions, IsGoal, AreGoals, AreBranches, IsBranch, HaveGoals, AreUnits, IsCollection}
 use Rattle.pi_rewrite_spec.proofs.AgreeLemmas.{grows-then}
@@ -79,12 +79,12 @@ mutual
       (all-last c each w (behind_exp t i) is are.1.1 (stands-last c w t (places i) (helpers_in i) (helpers_in i) (helpers_in_all is) (value_helpers t i) (all_helpers (behind_exp t i) is) rest))
       (applied_to c.set.calls index_name (in_front (value_of c.set.calls plain s.before e) (in_front (value_of c.set.calls plain t.before i) nothing)))
       (λ ns. slots.indexed (value_by (is_flat i) s.filled e ns (made s e ns)) (λ ms. last_value i ms (made t i ms)))
-      (other-arguments c.known c.set.calls c.builtins (slots_level c w) (names_level c w) s.filled index_name 2 (in_front (value_of c.set.calls plain s.before e) (in_front (value_of c.set.calls plain t.before i) nothing)) (pair_values s.filled e i (made s e) (made t i) (is_flat i)) (alike-here c each w)
+      (other-arguments c.known c.set.calls c.builtins (slots_level c w) (names_level c w) s.filled index_name 2 (in_front (value_of c.set.calls plain s.before e) (in_front (value_of c.set.calls plain t.before i) nothing)) (pair_values s.filled (ahead e (made s e) (is_flat i)) i (made t i)) (alike-here c each w)
       (pair-arguments c.known c.set.calls c.builtins (slots_level c w) (names_level c w) s.filled (alike-here c each w) s.before e i (flat-term c.known e are.0) (flat-term c.known i are.1.0) (made s e) (made t i) one two) (λ ns. refl) item-given)
   made-same c each w s (index e no_exps) are st flat = absurd (are.2 refl)
   made-same c each w s (range first last) is st flat =
       let t : Site = behind_exp s first in
-      other-arguments c.known c.set.calls c.builtins (slots_level c w) (names_level c w) s.filled (codes "..") 2 (in_front (value_of c.set.calls plain s.before first) (in_front (value_of c.set.calls plain t.before last) nothing)) (pair_values s.filled first last (made s first) (made t last) (is_flat last)) (alike-here c each w)
+      other-arguments c.known c.set.calls c.builtins (slots_level c w) (names_level c w) s.filled (codes "..") 2 (in_front (value_of c.set.calls plain s.before first) (in_front (value_of c.set.calls plain t.before last) nothing)) (pair_values s.filled (ahead first (made s first) (is_flat last)) last (made t last)) (alike-here c each w)
       (pair-arguments c.known c.set.calls c.builtins (slots_level c w) (names_level c w) s.filled (alike-here c each w) s.before first last (flat-term c.known first is.0) (flat-term c.known last is.1) (made s first) (made t last)
       (made-same c each w s first is.0 (stands-first c w s (helpers_in first) (helpers_in last) (value_helpers s first) (value_helpers t last) st))
       (made-same c each w t last is.1 (stands-last c w s (places first) (helpers_in first) (helpers_in first) (helpers_in last) (value_helpers s first) (value_helpers t last) st))) (λ ns. refl) range-given.0
@@ -94,7 +94,7 @@ mutual
       let rest : Stands c w t (helpers_in step + helpers_in last) (value_helpers t step ++ value_helpers u last) =
       stands-last c w s (places first) (helpers_in first) (helpers_in first) (helpers_in step + helpers_in last) (value_helpers s first) (value_helpers t step ++ value_helpers u last) st in
       other-arguments c.known c.set.calls c.builtins (slots_level c w) (names_level c w) s.filled (codes "..") 3 (in_front (value_of c.set.calls plain s.before first) (in_front (value_of c.set.calls plain t.before step) (in_front (value_of c.set.calls plain u.before last) nothing)))
-      (three_values s.filled first step last (made s first) (made t step) (made u last) (is_flat step && is_flat last) (is_flat last)) (alike-here c each w)
+      (three_values s.filled (ahead first (made s first) (is_flat step && is_flat last)) (ahead step (made t step) (is_flat last)) last (made u last)) (alike-here c each w)
       (three-arguments c.known c.set.calls c.builtins (slots_level c w) (names_level c w) s.filled (alike-here c each w) s.before first step last (flat-term c.known first is.0) (flat-term c.known step is.1) (flat-term c.known last is.2) (made s first) (made t step) (made u last)
       (made-same c each w s first is.0 (stands-first c w s (helpers_in first) (helpers_in step + helpers_in last) (value_helpers s first) (value_helpers t step ++ value_helpers u last) st))
       (made-same c each w t step is.1 (stands-first c w t (helpers_in step) (helpers_in last) (value_helpers t step) (value_helpers u last) rest))

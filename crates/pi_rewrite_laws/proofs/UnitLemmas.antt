@@ -18,7 +18,7 @@ use Rattle.pi_rewrite_spec.specs.Iterators.{tested, turn_helper, element_helper}
 use Rattle.pi_rewrite_spec.specs.Written as written
 use Rattle.pi_rewrite_spec.specs.Written.{Inner, start_loop, iterator_loop, turn_name, is_range, gone_over, elements_of, turns_of, unit_goals, started_goals}
 use Rattle.pi_rewrite_spec.specs.Ranges.{range_goals, range_helper, step_helper}
-use Rattle.pi_rewrite_spec.specs.Helpers.{own_helpers, iterated_helpers, unit_helpers, started_helpers}
+use Rattle.pi_rewrite_spec.specs.Helpers.{own_helpers, iterated_helpers, unit_helpers, started_helpers, iterator_text}
 use Rattle.pi_rewrite_spec.proofs.RunLemmas.{SameGoals, SameLast, SameArguments}
 use Rattle.pi_rewrite_laws.proofs.HelperLemmas.{AreAmong}
 use Rattle.pi_rewrite_spec.proofs.EndLemmas.{finish_of}
@@ -67,10 +67,10 @@ pub data Collected (c : Fixture) (w : Here c) (s : Site) (u : ExpTree) : Bool �
 iterator-unit : (c : Fixture) (each : AlikeUpTo c) (w : Here c) (s : Site) (ending : Ending) (i : Inner) (u : ExpTree) (us : ExpTrees) (e : ExpTree) → iterated u ≡ Some e → IsPattern e → Within i.assigned i.used → (nbody : Names → Goal) (lbody : Site → SlotNames → SlotGoals)
     (helpers : Site → Ending → List PredTree) (over : List PredTree) → Collected c w s u (is_range u) → RestAt c i us nbody lbody helpers →
     Stands c w s ((helpers_in u + (helpers_in_units us + 2)) + i.count)
-    (iterated_helpers s ending i u us e over (helpers (elements_of s (iterator_loop s ending i u us e) u e) as_it_is) (written.units (elements_of s (iterator_loop s ending i u us e) u e) as_it_is i us lbody)) →
-    SameGoals c.builtins (slots_level c w) (names_level c w) s.filled (over_names.iterating (finish_of ending) s.before (names_inside s.before (Some e) (occurring_all us ++ i.used)) (kept_names s.before (exp u us) i.assigned) e (collection_of c.set.calls s.before u)
+    (iterated_helpers (iterator_text s ending i u us e) over (helpers (elements_of s (iterator_loop s ending i u us e) u e) as_it_is) (written.units (elements_of s (iterator_loop s ending i u us e) u e) as_it_is i us lbody)) →
+    SameGoals c.builtins (slots_level c w) (names_level c w) s.filled (over_names.iterating (over_names.names_around (finish_of ending) s.before (names_inside s.before (Some e) (occurring_all us ++ i.used)) (kept_names s.before (exp u us) i.assigned)) e (collection_of c.set.calls s.before u)
     (units_of c.set.calls over_names.as_it_is (behind (names_inside s.before (Some e) (occurring_all us ++ i.used)) (places e)) i.assigned i.used us nbody))
-    (λ ms. gone_over (is_range u) s.filled s.before (iterator_loop s ending i u us e) (written.bounds_of s u) (written.collection_of s u) ms)
+    (λ ms. gone_over (is_range u) s (iterator_loop s ending i u us e) (written.bounds_of s u) (written.collection_of s u) ms)
 iterator-unit c each w s ending i u us e is pattern within nbody lbody helpers over collection rest st = go (is_range u) collection (have-last c ps (own (is_range u)) (have-last c over (ps ++ own (is_range u)) st.has))
   where
     used : Names
@@ -114,15 +114,15 @@ iterator-unit c each w s ending i u us e is pattern within nbody lbody helpers o
     among = kept-among-inside s.before u us e i.assigned used (within-behind i.assigned (occurring_all us) i.used within) (apart-first u us e is)
 
     go : (r : Bool) → Collected c w s u r → HaveHelpers c (own r) →
-        SameGoals c.builtins (slots_level c w) (names_level c w) s.filled (over_names.iterating (finish_of ending) s.before (names_inside s.before (Some e) (occurring_all us ++ i.used)) (kept_names s.before (exp u us) i.assigned) e (collection_of c.set.calls s.before u) body)
-        (λ ms. gone_over r s.filled s.before (iterator_loop s ending i u us e) (written.bounds_of s u) (written.collection_of s u) ms)
+        SameGoals c.builtins (slots_level c w) (names_level c w) s.filled (over_names.iterating (over_names.names_around (finish_of ending) s.before (names_inside s.before (Some e) (occurring_all us ++ i.used)) (kept_names s.before (exp u us) i.assigned)) e (collection_of c.set.calls s.before u) body)
+        (λ ms. gone_over r s (iterator_loop s ending i u us e) (written.bounds_of s u) (written.collection_of s u) ms)
     go false (by_value collected) two =
         iterator-same c.known c.set.calls c.builtins (slots_level c w) (names_level c w) s.filled (alike-here c each w) loop turn s.before e pattern (collection_of c.set.calls s.before u) (written.collection_of s u) collected body lb (inside-among s.before (Some e) used st.named) (kept-before s.before (exp u us) i.assigned) among
         (pattern-apart loop s.before e used refl)
         (walks-at c.builtins c.preds c.set c.program c.most (element_helper turn loop) (turn_helper turn loop e lb) two.0 two.1.0 (TurnSame c.known c.set.calls c.builtins loop (slot_pattern e []) body lb) rank (omega (arith, st.fits)) turns w.depth w.calls w.up
         (omega (arith, st.few)))
     go true (by_range vs same bounds collected) two =
-        subst (λ (v : Value). SameGoals c.builtins (slots_level c w) (names_level c w) s.filled (over_names.iterating (finish_of ending) s.before loop.shared loop.kept e v body) (range_goals s.filled s.before loop (written.bounds_of s u))) (sym same)
+        subst (λ (v : Value). SameGoals c.builtins (slots_level c w) (names_level c w) s.filled (over_names.iterating (over_names.names_around (finish_of ending) s.before loop.shared loop.kept) e v body) (range_goals s.filled s.before loop (written.bounds_of s u))) (sym same)
         (range-same c.known c.set.calls c.builtins (slots_level c w) (names_level c w) s.filled (alike-here c each w) loop turn s.before e pattern vs (written.bounds_of s u) bounds collected body lb (inside-among s.before (Some e) used st.named) (kept-before s.before (exp u us) i.assigned) among (pattern-apart loop s.before e used refl)
         (steps-at c.builtins c.preds c.set c.program c.most (range_helper turn loop) (step_helper turn loop e lb) two.0 two.1.0 (TurnSame c.known c.set.calls c.builtins loop (slot_pattern e []) body lb) rank (omega (arith, st.fits)) turns w.depth w.calls w.up
         (omega (arith, st.few))))
@@ -133,11 +133,11 @@ pub unit-same : (c : Fixture) (each : AlikeUpTo c) (w : Here c) (s : Site) (endi
     (helpers : Site → Ending → List PredTree) (over test : List PredTree) → (collected → Stands c w s (helpers_in u) over → Collected c w s u (is_range u)) →
     (tests → Stands c w s (helpers_in u) test → SameGoals c.builtins (slots_level c w) (names_level c w) s.filled (goal_of c.set.calls s.before u) (written.goal_of s u)) → RestAt c i us nbody lbody helpers → (o : Option ExpTree) → iterated u ≡ o → IsUnit o collected tests →
     Stands c w s ((helpers_in u + (helpers_in_units us + iterator_helpers o)) + i.count)
-    (unit_helpers o (λ e. iterated_helpers s ending i u us e over (helpers (elements_of s (iterator_loop s ending i u us e) u e) as_it_is) (written.units (elements_of s (iterator_loop s ending i u us e) u e) as_it_is i us lbody))
+    (unit_helpers o (λ e. iterated_helpers (iterator_text s ending i u us e) over (helpers (elements_of s (iterator_loop s ending i u us e) u e) as_it_is) (written.units (elements_of s (iterator_loop s ending i u us e) u e) as_it_is i us lbody))
     (test ++ helpers (behind_exp s u) as_it_is)) →
-    SameGoals c.builtins (slots_level c w) (names_level c w) s.filled (over_names.unit (finish_of ending) s.before (names_inside s.before o (occurring_all us ++ i.used)) (kept_names s.before (exp u us) i.assigned) o (collection_of c.set.calls s.before u) (goal_of c.set.calls s.before u)
+    SameGoals c.builtins (slots_level c w) (names_level c w) s.filled (over_names.unit (over_names.names_around (finish_of ending) s.before (names_inside s.before o (occurring_all us ++ i.used)) (kept_names s.before (exp u us) i.assigned)) o (collection_of c.set.calls s.before u) (goal_of c.set.calls s.before u)
     (units_of c.set.calls over_names.as_it_is (behind (names_inside s.before o (occurring_all us ++ i.used)) (unit_places o u)) i.assigned i.used us nbody))
-    (unit_goals o (λ e ms. gone_over (is_range u) s.filled s.before (iterator_loop s ending i u us e) (written.bounds_of s u) (written.collection_of s u) ms) (λ ms. tested (written.goal_of s u ms) (written.units (behind_exp s u) as_it_is i us lbody)))
+    (unit_goals o (λ e ms. gone_over (is_range u) s (iterator_loop s ending i u us e) (written.bounds_of s u) (written.collection_of s u) ms) (λ ms. tested (written.goal_of s u ms) (written.units (behind_exp s u) as_it_is i us lbody)))
 unit-same c each w s ending i u us collected tests within nbody lbody helpers over test collection condition rest None is fits st =
     tested-goals c.known c.set.calls c.builtins (slots_level c w) (names_level c w) s.filled (goal_of c.set.calls s.before u) (units_of c.set.calls over_names.as_it_is (behind s.before (places u)) i.assigned i.used us nbody) (written.goal_of s u) (written.units (behind_exp s u) as_it_is i us lbody)
     (alike-here c each w)
@@ -160,7 +160,7 @@ pub started-same : (c : Fixture) (each : AlikeUpTo c) (w : Here c) (s : Site) (e
     Stands c w s ((helpers_in_units us + i.count) + cond begins 0 1)
     (started_helpers begins helpers (λ t. written.units t as_it_is i us lbody) s (start_loop s ending kept i us)) →
     SameGoals c.builtins (slots_level c w) (names_level c w) s.filled (cond begins (units_of c.set.calls (finish_of ending) s.before i.assigned i.used us nbody)
-    (over_names.turning (finish_of ending) s.before (shared_names s.before (occurring_all us ++ i.used)) kept (strictly (units_of c.set.calls over_names.as_it_is (shared_names s.before (occurring_all us ++ i.used)) i.assigned i.used us nbody))))
+    (over_names.turning (over_names.names_around (finish_of ending) s.before (shared_names s.before (occurring_all us ++ i.used)) kept) (strictly (units_of c.set.calls over_names.as_it_is (shared_names s.before (occurring_all us ++ i.used)) i.assigned i.used us nbody))))
     (started_goals begins (written.units s ending i us lbody) s (start_loop s ending kept i us))
 started-same c each w s ending kept i us nbody lbody helpers stand among rest true st =
     rest w s ending (record { named = st.named; few = omega (arith, st.few); fits = omega (arith, st.fits); has = st.has })

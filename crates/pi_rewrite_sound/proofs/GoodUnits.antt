@@ -24,7 +24,7 @@ use Rattle.pi_rewrite_spec.specs.Loops.{Ending, as_it_is, Loop, started, as_writ
 use Rattle.pi_rewrite_spec.specs.Iterators.{tested, found_by}
 use Rattle.pi_rewrite_spec.specs.Comprehensions.{adding, begun, comprehension}
 use Rattle.pi_rewrite_spec.specs.Written.{Inner, start_loop, iterator_loop, turn_name, is_range, gone_over, elements_of, turns_of, unit_goals, started_goals, units, goal_of, collection_of, bounds_of}
-use Rattle.pi_rewrite_spec.specs.Helpers.{own_helpers, iterated_helpers, unit_helpers, started_helpers}
+use Rattle.pi_rewrite_spec.specs.Helpers.{own_helpers, iterated_helpers, unit_helpers, started_helpers, iterator_text}
 use Rattle.pi_rewrite_spec.proofs.AgreeLemmas.{grows-length, grows-for}
 use Rattle.pi_rewrite_spec.proofs.TermLemmas.{name-room, term-grows}
 use Rattle.pi_rewrite_laws.proofs.BelowLemmas.{none-below, front-below, var-below, atom-below}
@@ -83,7 +83,7 @@ collected-helpers (by_value is) = is.helpers
 collected-helpers (by_range are) = are.helpers
 
 good-gone-over : (known : Knows) (over ps : List PredTree) (s : Site) (u : ExpTree) (r : Bool) (l : Loop) → AreAmong s.before l.shared → AreAmong s.before l.kept → GoodCollection known over s u r → GoodHelpers known ps →
-    ((may : Knows) → Has may ps → Has may over) → ((may : Knows) → Has may ps → Enters may l 3) → GoodGoals known ps (λ ns. gone_over r s.filled s.before l (bounds_of s u) (collection_of s u) ns)
+    ((may : Knows) → Has may ps → Has may over) → ((may : Knows) → Has may ps → Enters may l 3) → GoodGoals known ps (λ ns. gone_over r s l (bounds_of s u) (collection_of s u) ns)
 good-gone-over known over ps s u _ l shared kept (by_value is) helpers there enters = good-iterator s.filled s.before l shared kept is helpers there enters
 good-gone-over known over ps s u _ l shared kept (by_range are) helpers there enters = good-range s.filled s.before l shared kept are helpers there enters
 
@@ -93,8 +93,8 @@ RestGood known i us body helpers = (t : Site) (ending : Ending) → AreNamed t.b
 
 iterator-good : (known : Knows) (s : Site) (ending : Ending) (i : Inner) (u : ExpTree) (us : ExpTrees) (e : ExpTree) → iterated u ≡ Some e → IsPattern e → AreNamed s.before → Within i.assigned i.used → (body : Site → SlotNames → SlotGoals)
     (helpers : Site → Ending → List PredTree) (over : List PredTree) → GoodCollection known over s u (is_range u) → RestGood known i us body helpers →
-    GoodGoals known (iterated_helpers s ending i u us e over (helpers (elements_of s (iterator_loop s ending i u us e) u e) as_it_is) (λ ns. units (elements_of s (iterator_loop s ending i u us e) u e) as_it_is i us body ns))
-    (λ ns. gone_over (is_range u) s.filled s.before (iterator_loop s ending i u us e) (bounds_of s u) (collection_of s u) ns)
+    GoodGoals known (iterated_helpers (iterator_text s ending i u us e) over (helpers (elements_of s (iterator_loop s ending i u us e) u e) as_it_is) (λ ns. units (elements_of s (iterator_loop s ending i u us e) u e) as_it_is i us body ns))
+    (λ ns. gone_over (is_range u) s (iterator_loop s ending i u us e) (bounds_of s u) (collection_of s u) ns)
 iterator-good known s ending i u us e is pattern named within body helpers over collected rest =
     good-same (append_assoc over ps own)
     (good-gone-over known over ((over ++ ps) ++ own) s u (is_range u) loop (inside-among s.before (Some e) used named) (kept-before s.before (exp u us) i.assigned) collected all
@@ -138,9 +138,9 @@ iterator-good known s ending i u us e is pattern named within body helpers over 
 pub unit-good : (known : Knows) (s : Site) (ending : Ending) (i : Inner) (u : ExpTree) (us : ExpTrees) (collected tests : Type 0) (built tested_built : Bool) → AreNamed s.before → Within i.assigned i.used → (body : Site → SlotNames → SlotGoals)
     (helpers : Site → Ending → List PredTree) (over test : List PredTree) → (collected → built ≡ true → GoodCollection known over s u (is_range u)) → (tests → tested_built ≡ true → GoodGoals known test (λ ns. goal_of s u ns)) → RestGood known i us body helpers →
     (o : Option ExpTree) → iterated u ≡ o → IsUnit o collected tests → is_built_unit o built tested_built ≡ true →
-    GoodGoals known (unit_helpers o (λ e. iterated_helpers s ending i u us e over (helpers (elements_of s (iterator_loop s ending i u us e) u e) as_it_is) (λ ns. units (elements_of s (iterator_loop s ending i u us e) u e) as_it_is i us body ns))
+    GoodGoals known (unit_helpers o (λ e. iterated_helpers (iterator_text s ending i u us e) over (helpers (elements_of s (iterator_loop s ending i u us e) u e) as_it_is) (λ ns. units (elements_of s (iterator_loop s ending i u us e) u e) as_it_is i us body ns))
     (test ++ helpers (behind_exp s u) as_it_is))
-    (λ ns. unit_goals o (λ e ms. gone_over (is_range u) s.filled s.before (iterator_loop s ending i u us e) (bounds_of s u) (collection_of s u) ms) (λ ms. tested (goal_of s u ms) (λ ks. units (behind_exp s u) as_it_is i us body ks)) ns)
+    (λ ns. unit_goals o (λ e ms. gone_over (is_range u) s (iterator_loop s ending i u us e) (bounds_of s u) (collection_of s u) ms) (λ ms. tested (goal_of s u ms) (λ ks. units (behind_exp s u) as_it_is i us body ks)) ns)
 unit-good known s ending i u us collected tests built tested_built named within body helpers over test collection condition rest None is fits fine =
     good-same (ap (λ (qs : List PredTree). test ++ qs) (append-nil (helpers (behind_exp s u) as_it_is)))
     (good-choosing (condition fits fine) (rest (behind_exp s u) as_it_is (behind-named s.before (places u) named)) (good-just truth (λ n may allows. fine-truth n may)))

@@ -15,7 +15,7 @@ use Rattle.pi_rewrite_spec.specs.Forms.{Knows}
 use Rattle.pi_rewrite_spec.specs.Slots.{SlotNames, unnamed, slot_for, with_value}
 use Rattle.pi_rewrite_spec.specs.Values.{SlotValue, SlotValues, slot_term, is_flat, as_it_stands, is_below, evaluating, filling, filled_before, last_value, value_before, value_by, no_values, before_values, value_of_parts, value_onto, applied, Slotted, slotted}
 use Rattle.pi_rewrite_spec.specs.Goals.{SlotGoals, in_turn, no_value, called, assigned, found_by, all_counted, indexed, indexed_by}
-use Rattle.pi_rewrite_spec.specs.Written.{pair_values, three_values}
+use Rattle.pi_rewrite_spec.specs.Written.{pair_values, three_values, ahead}
 use Rattle.pi_rewrite_spec.proofs.AgreeLemmas.{grows-length, grows-for}
 use Rattle.pi_rewrite_spec.proofs.TermLemmas.{name-room, term-grows}
 use Rattle.pi_rewrite_laws.proofs.BelowLemmas.{none-below, front-below, var-below, below-var, atom-below, items-below}
@@ -103,11 +103,11 @@ good-alone {known} {ps} {v} is = record {
 }
 
 -- two and three, of which the last is evaluated where they are used
-pub pair-good : {known : Knows} {ps qs : List PredTree} {f g : SlotNames → SlotValue} (h : ℕ) (first last : ExpTree) (test : Bool) → GoodValue known ps f → GoodValue known qs g → GoodValues known (ps ++ qs) (λ ns. pair_values h first last f g test ns)
+pub pair-good : {known : Knows} {ps qs : List PredTree} {f g : SlotNames → SlotValue} (h : ℕ) (first last : ExpTree) (test : Bool) → GoodValue known ps f → GoodValue known qs g → GoodValues known (ps ++ qs) (λ ns. pair_values h (ahead first f test) last g ns)
 pair-good h first last test one two = good-front (good-by test h first one) (good-alone (good-last last two))
 
 pub three-good : {known : Knows} {ps qs rs : List PredTree} {f g k : SlotNames → SlotValue} (h : ℕ) (first step last : ExpTree) (a c : Bool) → GoodValue known ps f → GoodValue known qs g → GoodValue known rs k →
-    GoodValues known (ps ++ (qs ++ rs)) (λ ns. three_values h first step last f g k a c ns)
+    GoodValues known (ps ++ (qs ++ rs)) (λ ns. three_values h (ahead first f a) (ahead step g c) last k ns)
 three-good h first step last a c one two three = good-front (good-by a h first one) (pair-good h step last c two three)
 
 pub good-parts : {known : Knows} {ps : List PredTree} {vs : SlotNames → SlotValues} (make : Trees → Tree) → ((n : ℕ) (ts : Trees) → TreesBelow n ts → SpeaksBelow n (make ts)) → GoodValues known ps vs → GoodValue known ps (λ ns. value_of_parts make (vs ns))

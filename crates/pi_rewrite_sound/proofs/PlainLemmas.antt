@@ -19,7 +19,7 @@ use Rattle.pi_rewrite_spec.specs.Sites.{Site, helpers_in, helpers_in_all, helper
 use Rattle.pi_rewrite_spec.specs.Loops.{Ending, as_it_is, in_order, Loop}
 use Rattle.pi_rewrite_spec.specs.Comprehensions.{adding}
 use Rattle.pi_rewrite_spec.specs.Written.{while_loop, do_loop, turns_of, Inner, inner_of, gathering, gathered_at, start_loop, iterator_loop, turn_name, is_range, elements_of, made, goal_of, units}
-use Rattle.pi_rewrite_spec.specs.Helpers.{HelperParts, own_helpers, helpers_at, goal_call_helpers, iterated_helpers, unit_helpers, started_helpers, value_helpers, all_helpers, values_helpers, goals_helpers, goal_helpers, conjunct_helpers, branch_helpers, units_helpers, collection_helpers}
+use Rattle.pi_rewrite_spec.specs.Helpers.{HelperParts, own_helpers, helpers_at, goal_call_helpers, iterated_helpers, unit_helpers, started_helpers, value_helpers, all_helpers, values_helpers, goals_helpers, goal_helpers, conjunct_helpers, branch_helpers, units_helpers, collection_helpers, iterator_text}
 use Rattle.pi_rewrite_spec.specs.Programs.{Naming, option_helpers, behind_option, rule_site, function_site, value_site, clause_count, written_clause, clause_helpers, clauses_of, helpers_of, core_program}
 use Rattle.pi_rewrite_laws.proofs.FindLemmas.{Modes}
 use Rattle.pi_rewrite_sound.specs.Laws.{IsPlain, LoweredProgramsArePlain}
@@ -61,7 +61,7 @@ own-plain : (r : Bool) (name : List ℕ) (l : Loop) (e : ExpTree) (turn : SlotNa
 own-plain true name l e turn = record { each = ((refl, tt), ((refl, (refl, tt)), tt)) }
 own-plain false name l e turn = record { each = ((refl, (refl, (refl, tt))), ((refl, (refl, tt)), tt)) }
 
-iterated-plain : (s : Site) (ending : Ending) (i : Inner) (u : ExpTree) (us : ExpTrees) (e : ExpTree) (over inside : List PredTree) (turn : SlotNames → SlotGoals) → ArePlain over → ArePlain inside → ArePlain (iterated_helpers s ending i u us e over inside turn)
+iterated-plain : (s : Site) (ending : Ending) (i : Inner) (u : ExpTree) (us : ExpTrees) (e : ExpTree) (over inside : List PredTree) (turn : SlotNames → SlotGoals) → ArePlain over → ArePlain inside → ArePlain (iterated_helpers (iterator_text s ending i u us e) over inside turn)
 iterated-plain s ending i u us e over inside turn one two =
     plain-both one (plain-both two (own-plain (is_range u) (turn_name s i u us) (iterator_loop s ending i u us e) e turn))
 

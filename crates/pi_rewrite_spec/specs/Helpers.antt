@@ -50,11 +50,23 @@ abbrev pub own_helpers : Bool → List ℕ → Loop → ExpTree → (SlotNames �
 own_helpers true name l e turn = range_helper name l ∷ step_helper name l e turn ∷ []
 own_helpers false name l e turn = element_helper name l ∷ turn_helper name l e turn ∷ []
 
+-- an iterator of a text: where it stands, the ending of its loop, what stands in that, the iterator itself, the units after it, and its pattern
+pub record IteratorText : Type 0 where
+  pub site : Site
+  pub ending : Ending
+  pub inner : Inner
+  pub unit : ExpTree
+  pub others : ExpTrees
+  pub pattern : ExpTree
+
+abbrev pub iterator_text : Site → Ending → Inner → ExpTree → ExpTrees → ExpTree → IteratorText
+iterator_text s ending i u us e = record { site = s; ending = ending; inner = i; unit = u; others = us; pattern = e }
+
 -- Those of what an iterator goes over stand before those of its turns, and these before its own two.
-abbrev pub iterated_helpers : Site → Ending → Inner → ExpTree → ExpTrees → ExpTree → List PredTree → List PredTree → (SlotNames → SlotGoals) → List PredTree
-iterated_helpers s ending i u us e over inside turn =
-    let loop : Loop = iterator_loop s ending i u us e in
-    over ++ (inside ++ own_helpers (is_range u) (turn_name s i u us) loop e turn)
+abbrev pub iterated_helpers : IteratorText → List PredTree → List PredTree → (SlotNames → SlotGoals) → List PredTree
+iterated_helpers t over inside turn =
+    let loop : Loop = iterator_loop t.site t.ending t.inner t.unit t.others t.pattern in
+    over ++ (inside ++ own_helpers (is_range t.unit) (turn_name t.site t.inner t.unit t.others) loop t.pattern turn)
 
 abbrev pub unit_helpers : Option ExpTree → (ExpTree → List PredTree) → List PredTree → List PredTree
 unit_helpers None iterator test = test
@@ -139,7 +151,7 @@ unfoldable mutual
   pub units_helpers : Site → Ending → Inner → ExpTrees → (Site → SlotNames → SlotGoals) → (Site → List PredTree) → List PredTree
   units_helpers s ending i no_exps body inner = inner s
   units_helpers s ending i (exp u us) body inner =
-      unit_helpers (iterated u) (λ e. iterated_helpers s ending i u us e (collection_helpers s u) (units_helpers (elements_of s (iterator_loop s ending i u us e) u e) as_it_is i us body inner)
+      unit_helpers (iterated u) (λ e. iterated_helpers (iterator_text s ending i u us e) (collection_helpers s u) (units_helpers (elements_of s (iterator_loop s ending i u us e) u e) as_it_is i us body inner)
       (units (elements_of s (iterator_loop s ending i u us e) u e) as_it_is i us body)) (goal_helpers s u ++ units_helpers (behind_exp s u) as_it_is i us body inner)
 
   pub collection_helpers : Site → ExpTree → List PredTree

@@ -75,11 +75,22 @@ elements_of s l u e = record {
 abbrev pub last_one : ExpTree → (SlotNames → SlotValue) → SlotNames → SlotValues
 last_one e f ns = before_values (last_value e ns (f ns)) (no_values (last_value e ns (f ns)).names)
 
-abbrev pub pair_values : ℕ → ExpTree → ExpTree → (SlotNames → SlotValue) → (SlotNames → SlotValue) → Bool → SlotNames → SlotValues
-pair_values h e i f g test ns = before_values (value_by test h e ns (f ns)) (last_one i g (value_by test h e ns (f ns)).names)
+-- an expression that others follow: what it is lowered to, and whether it is the last one that is evaluated before the use
+pub record Ahead : Type 0 where
+  pub exp : ExpTree
+  pub made : SlotNames → SlotValue
+  pub is_last : Bool
 
-abbrev pub three_values : ℕ → ExpTree → ExpTree → ExpTree → (SlotNames → SlotValue) → (SlotNames → SlotValue) → (SlotNames → SlotValue) → Bool → Bool → SlotNames → SlotValues
-three_values h first step last f g k a c ns = before_values (value_by a h first ns (f ns)) (pair_values h step last g k c (value_by a h first ns (f ns)).names)
+abbrev pub ahead : ExpTree → (SlotNames → SlotValue) → Bool → Ahead
+ahead e f is_last = record { exp = e; made = f; is_last = is_last }
+
+abbrev pub pair_values : ℕ → Ahead → ExpTree → (SlotNames → SlotValue) → SlotNames → SlotValues
+pair_values h x i g ns = before_values (value_by x.is_last h x.exp ns (x.made ns)) (last_one i g (value_by x.is_last h x.exp ns (x.made ns)).names)
+
+abbrev pub three_values : ℕ → Ahead → Ahead → ExpTree → (SlotNames → SlotValue) → SlotNames → SlotValues
+three_values h first step last k ns =
+    before_values (value_by first.is_last h first.exp ns (first.made ns))
+    (pair_values h step last k (value_by first.is_last h first.exp ns (first.made ns)).names)
 
 -- an iterator or a test
 abbrev pub unit_goals : Option ExpTree → (ExpTree → SlotNames → SlotGoals) → (SlotNames → SlotGoals) → SlotNames → SlotGoals
@@ -92,9 +103,9 @@ is_range (call name (exp e (exp (range first last) es))) = true
 is_range (call name (exp e (exp (range_by first step last) es))) = true
 is_range u = false
 
-abbrev pub gone_over : Bool → ℕ → Names → Loop → (SlotNames → SlotValues) → (SlotNames → SlotValue) → SlotNames → SlotGoals
-gone_over true h before l bounds collection ns = range_goals h before l bounds ns
-gone_over false h before l bounds collection ns = iterator_goals h before l collection ns
+abbrev pub gone_over : Bool → Site → Loop → (SlotNames → SlotValues) → (SlotNames → SlotValue) → SlotNames → SlotGoals
+gone_over true s l bounds collection ns = range_goals s.filled s.before l bounds ns
+gone_over false s l bounds collection ns = iterator_goals s.filled s.before l collection ns
 
 -- a loop starts with its first iterator, or before its first test
 abbrev pub started_goals : Bool → (SlotNames → SlotGoals) → Site → Loop → SlotNames → SlotGoals
@@ -215,7 +226,7 @@ unfoldable mutual
   pub units : Site → Ending → Inner → ExpTrees → (Site → SlotNames → SlotGoals) → SlotNames → SlotGoals
   units s ending i no_exps body ns = body s ns
   units s ending i (exp u us) body ns =
-      unit_goals (iterated u) (λ e ms. gone_over (is_range u) s.filled s.before (iterator_loop s ending i u us e) (bounds_of s u) (collection_of s u) ms) (λ ms. tested (goal_of s u ms) (units (behind_exp s u) as_it_is i us body)) ns
+      unit_goals (iterated u) (λ e ms. gone_over (is_range u) s (iterator_loop s ending i u us e) (bounds_of s u) (collection_of s u) ms) (λ ms. tested (goal_of s u ms) (units (behind_exp s u) as_it_is i us body)) ns
 
   -- what an iterator goes over
   pub collection_of : Site → ExpTree → SlotNames → SlotValue
@@ -225,7 +236,8 @@ unfoldable mutual
   -- the bounds of a range that an iterator goes over, and its step
   pub bounds_of : Site → ExpTree → SlotNames → SlotValues
   bounds_of s (call name (exp e (exp (range first last) es))) ns =
-      pair_values s.filled first last (made s first) (made (behind_exp s first) last) (is_flat last) ns
+      pair_values s.filled (ahead first (made s first) (is_flat last)) last (made (behind_exp s first) last) ns
   bounds_of s (call name (exp e (exp (range_by first step last) es))) ns =
-      three_values s.filled first step last (made s first) (made (behind_exp s first) step) (made (behind_site s (places first ++ places step) (helpers_in first + helpers_in step)) last) (is_flat step && is_flat last) (is_flat last) ns
+      three_values s.filled (ahead first (made s first) (is_flat step && is_flat last)) (ahead step (made (behind_exp s first) step) (is_flat last)) last
+      (made (behind_site s (places first ++ places step) (helpers_in first + helpers_in step)) last) ns
   bounds_of s u ns = no_values ns

@@ -11,7 +11,7 @@ use Rattle.pi_meaning.specs.Shared.View.{call_of, same_call, body_view}
 use Rattle.pi_core.specs.declared.log.LogEntry.{LogEntry}
 use Rattle.pi_core.specs.declared.log.PlanResult.{PlanResult}
 use Rattle.pi_solve_spec.specs.Bodies.{Bodies, EndsIn, FailsIn, first_fault}
-use Rattle.pi_solve_spec.specs.Steps.{Valid, Reached, IsExhausted, number_of}
+use Rattle.pi_solve_spec.specs.Steps.{Valid, Reached, IsExhausted, number_of, Start, start_of}
 use Rattle.pi_solve_spec.specs.Calls.{Reach}
 
 -- ---- plans that were found
@@ -28,9 +28,9 @@ pub record HasPlan (b : Bodies) (log : List LogEntry) (start : Tree) (limit : �
 abbrev pub ExhaustedBelow : Bodies → List LogEntry → Tree → ℕ → Type 0
 ExhaustedBelow b log start m = (j : ℕ) → j < m → IsExhausted b log start j
 
-abbrev pub IsFound : Bool → Bodies → List LogEntry → Tree → ℕ → Tree → ℤ → Type 0
-IsFound false b log start limit plan cost = HasPlan b log start limit plan cost
-IsFound true b log start limit plan cost = (m : ℕ) × (m ≤ limit) × HasPlan b log start m plan cost × ExhaustedBelow b log start m
+abbrev pub IsFound : Bool → Bodies → List LogEntry → Start → Tree → ℤ → Type 0
+IsFound false b log start plan cost = HasPlan b log start.state start.limit plan cost
+IsFound true b log start plan cost = (m : ℕ) × (m ≤ start.limit) × HasPlan b log start.state m plan cost × ExhaustedBelow b log start.state m
 
 abbrev pub IsNoPlan : Bool → Bodies → List LogEntry → Tree → ℕ → Type 0
 IsNoPlan false b log start limit = IsExhausted b log start limit
@@ -48,9 +48,9 @@ pub data Raises (b : Bodies) (log : List LogEntry) (waiting : List Call) (s : Tr
       Raises b log waiting s r (exception_with (codes "planner") t empty_state)
 
 -- a state that the call reaches; of `best_plan` under a limit below which all is exhausted
-abbrev pub ReachedInTurn : Bool → Bodies → List LogEntry → Tree → ℕ → Tree → ℕ → Type 0
-ReachedInTurn false b log start limit s r = Reached b log start limit s r
-ReachedInTurn true b log start limit s r = (m : ℕ) × (m ≤ limit) × Reached b log start m s r × ExhaustedBelow b log start m
+abbrev pub ReachedInTurn : Bool → Bodies → List LogEntry → Start → Tree → ℕ → Type 0
+ReachedInTurn false b log start s r = Reached b log start.state start.limit s r
+ReachedInTurn true b log start s r = (m : ℕ) × (m ≤ start.limit) × Reached b log start.state m s r × ExhaustedBelow b log start.state m
 
 -- a call raises a term under a log: a body of a state that it reaches does, while calls are being answered each of which leads to this one
 pub record IsRaised (b : Bodies) (log : List LogEntry) (c : Call) (ball : Tree) : Type 0 where
@@ -58,13 +58,14 @@ pub record IsRaised (b : Bodies) (log : List LogEntry) (c : Call) (ball : Tree) 
   pub lead : All (λ d. Reach b 0 log d c) waiting
   pub state : Tree
   pub rest : ℕ
-  pub reached : ReachedInTurn c.best b log c.start (number_of c.limit) state rest
+  pub reached : ReachedInTurn c.best b log (start_of c) state rest
   pub raises : Raises b log waiting state rest ball
 
 -- ---- entries
 
 abbrev pub IsRightResult : Bodies → List LogEntry → Bool → Tree → ℤ → PlanResult → Type 0
-IsRightResult b log best start limit (PlanResult.Found plan cost) = IsFound best b log start (number_of limit) plan cost
+IsRightResult b log best start limit (PlanResult.Found plan cost) =
+    IsFound best b log (record { state = start; limit = number_of limit }) plan cost
 IsRightResult b log best start limit PlanResult.NoPlan = IsNoPlan best b log start (number_of limit)
 
 -- what an entry says holds under the log to which it is added, where no call that is open has an entry yet

@@ -52,10 +52,18 @@ abbrev pub number_of : ℤ → ℕ
 number_of (pos n) = n
 number_of (negsuc n) = 0
 
+-- where a planner call starts: the state, and its limit
+pub record Start : Type 0 where
+  pub state : Tree
+  pub limit : ℕ
+
+abbrev pub start_of : Call → Start
+start_of c = record { state = c.start; limit = number_of c.limit }
+
 -- `plan` reaches what is reached under its limit, `best_plan` what is reached under some limit up to its own
-abbrev pub ReachedUpTo : Bool → Bodies → List LogEntry → Tree → ℕ → Tree → ℕ → Type 0
-ReachedUpTo false b log start limit s r = Reached b log start limit s r
-ReachedUpTo true b log start limit s r = (m : ℕ) × (m ≤ limit) × Reached b log start m s r
+abbrev pub ReachedUpTo : Bool → Bodies → List LogEntry → Start → Tree → ℕ → Type 0
+ReachedUpTo false b log start s r = Reached b log start.state start.limit s r
+ReachedUpTo true b log start s r = (m : ℕ) × (m ≤ start.limit) × Reached b log start.state m s r
 
 abbrev pub CallReaches : Bodies → List LogEntry → Call → Tree → ℕ → Type 0
-CallReaches b log c s r = ReachedUpTo c.best b log c.start (number_of c.limit) s r
+CallReaches b log c s r = ReachedUpTo c.best b log (start_of c) s r

@@ -11,7 +11,7 @@ use Rattle.pi_region.specs.Image.{Image}
 use Rattle.pi_store_blocks.specs.ConstraintTable.{constraint_at}
 use Rattle.pi_store.specs.Walk.{next_at, any_of, leads_for, leads_at}
 use Rattle.pi_store.specs.Lists.{Leads, at_once, by_next, IsOnList, IsComplete}
-use Rattle.pi_store.specs.Posted.{item_leads, items_lead, sum_leads, constraint_leads, posted_at, ListsBelow, Passes}
+use Rattle.pi_store.specs.Posted.{item_leads, items_lead, sum_leads, constraint_leads, posted_at, ListsBelow, Passes, sought}
 use Rattle.pi_store.proofs.FoundLemmas.{lists_more, lists_jump, lists_none}
 use Rattle.pi_store.proofs.PostedLemmas.{or_true}
 
@@ -113,7 +113,7 @@ last_or_before : (k at : ℕ) → k < at + 1 → (k < at) ⊎ (k ≡ at)
 last_or_before k at lt = ⊎_elim (λ less. inl less) (λ more. let e : k ≡ at = omega arith in inr e) (cases_lt k at)
 
 pub scan_turns : (i : Image) (v : ℕ) (numbers : List ℕ) (at least : ℕ) (found : List ℕ) (n next : ℕ) (new : List ℕ) → Scanned i v numbers at least found → IsNonDecreasing numbers → ((k : ℕ) → IsOnList i v k → Contains numbers k)
-    → n ≡ slice_index numbers at → Passes i v n least found new next → Scanned i v numbers (at + 1) next new
+    → n ≡ slice_index numbers at → Passes i (sought v least) n found new next → Scanned i v numbers (at + 1) next new
 scan_turns i v numbers at least found n next new so up all is (inl p) =
     let least_is : next ≡ least = p.1 in
     let within : least ≤ length i.constraints = so.within in

@@ -37,6 +37,16 @@ posted_at i v n = constraint_leads i.variables (constraint_at i.region (slice_in
 abbrev pub ListsBelow : (ℕ → Type 0) → ℕ → List ℕ → Type 0
 ListsBelow P bound ns = Lists (λ n. (n < bound) × P n) ns
 
+-- the variable whose constraints are looked for, and the least number that is looked for
+pub record Sought : Type 0 where
+  pub variable : ℕ
+  pub least : ℕ
+
+abbrev pub sought : ℕ → ℕ → Sought
+sought v least = record { variable = v; least = least }
+
 -- A number of a list is passed: below the least that is looked for, or of no constraint, it is none; else it is looked at, and the next one is the least
-abbrev pub Passes : Image → ℕ → ℕ → ℕ → List ℕ → List ℕ → ℕ → Type 0
-Passes i v n least old new next = (((n < least) ⊎ (length i.constraints ≤ n)) × (next ≡ least) × (new ≡ old)) ⊎ ((least ≤ n) × (n < length i.constraints) × (next ≡ n + 1) × (new ≡ cond (posted_at i v n) (old ++ n ∷ []) old))
+abbrev pub Passes : Image → Sought → ℕ → List ℕ → List ℕ → ℕ → Type 0
+Passes i x n old new next =
+    (((n < x.least) ⊎ (length i.constraints ≤ n)) × (next ≡ x.least) × (new ≡ old))
+    ⊎ ((x.least ≤ n) × (n < length i.constraints) × (next ≡ n + 1) × (new ≡ cond (posted_at i x.variable n) (old ++ n ∷ []) old))

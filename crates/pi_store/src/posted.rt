@@ -1,7 +1,7 @@
 //! The constraints on a variable.
 ghost use Rattle.std.specs.Prelude.{◌≡◌, ℕ, IfOk, IsTrue, length, slice_index, cond, ◌++◌, ◌∷◌, [], Contains};
 ghost use Rattle.std.specs.List.Sorted.{IsNonDecreasing};
-ghost use Rattle.pi_store.specs.Posted.{item_leads, items_lead, sum_leads, constraint_leads, posted_at, ListsBelow, Passes};
+ghost use Rattle.pi_store.specs.Posted.{item_leads, items_lead, sum_leads, constraint_leads, posted_at, ListsBelow, Passes, sought};
 ghost use Rattle.pi_store.specs.Lists.{IsOnList, IsComplete};
 
 use crate::heads::list_end;
@@ -101,7 +101,7 @@ fn push_posted(
     least: u64,
     found: &mut Places,
 ) -> Result<u64, AllocError>
-    ensures { IfOk result (λ next. Passes words.now v n least found.old found.new next) }
+    ensures { IfOk result (λ next. Passes words.now (sought v least) n found.old found.new next) }
 {
     if n < least {
         return Ok(least);

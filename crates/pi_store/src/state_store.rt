@@ -1,4 +1,6 @@
 //! The store over raw words as a store of states.
+ghost use Rattle.std.specs.Prelude.{IfOk, IsOk, OnErr};
+ghost use Rattle.pi_constraints.specs.Store.{Marks, Stays};
 ghost use Rattle.pi_store.specs.Holding.{view_of};
 
 use crate::mark::RawMark;
@@ -131,7 +133,12 @@ impl StateStore for RawStore {
         Ok(taken)
     }
 
-    fn mark(&mut self) -> Result<RawMark, AllocError> {
+    /// Remembers what the store holds. It takes no memory, and so it is always Ok.
+    fn mark(&mut self) -> Result<RawMark, AllocError>
+        ensures ok { IfOk result (Marks order (seen self.old) (seen self.new)) }
+        ensures err { OnErr result (Stays (seen self.old) (seen self.new)) }
+        ensures always { IsOk result }
+    {
         Ok(self.mark_now())
     }
 

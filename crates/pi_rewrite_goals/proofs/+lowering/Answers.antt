@@ -17,7 +17,7 @@ use Rattle.pi_rewrite_spec.specs.Helpers.{value_helpers, all_helpers, goal_helpe
 use Rattle.pi_rewrite_slots.specs.Branches.{branches_in}
 use Rattle.pi_rewrite_sites.specs.SiteOf.{site_of}
 use Rattle.pi_rewrite_slots.specs.Indexed.{names_in}
-use Rattle.pi_rewrite_loops.specs.Helpers.{loop_of, ending_of}
+use Rattle.pi_rewrite_loops.specs.Helpers.{loop_of, ending_of, lowered}
 use Rattle.pi_rewrite_goals.proofs.LoopLemmas.{while-whole, do-whole}
 use Rattle.pi_rewrite_sites.proofs.NowTrees.{foreach-now, collect-now, while-now, do-now, atom-now, onto-now, list-now, array-now, call-now, index-now, range-now, range_by-now, and-now, or-now, arrow-now, if_then-now, if_else-now}
 use Rattle.pi_rewrite_goals.specs.Lowering.{value_of, call_as_goal, call_as_value, call_goal_helpers, call_value_helpers, values_of}
@@ -611,7 +611,7 @@ pub over::push_gone_over-returns-in_ok-push_through-in-Range : goal.over::push_g
 over::push_gone_over-returns-in_ok-push_through-in-Range t c = record {
   is = over-range (site_of c.args.site.now) (names_in c.as_slice.result.now) (names_in c.as_slice-2.result.now) (loop_of c.args.whole.now) (exp_tree c.args.unit.now) c.in-Range.bounds c.args.slots.now c.push_started.new.slots c.in_ok-found.found c.over_unit.new.slots c.push_through.new.slots
       c.args.goals.now.items c.push_started.new.goals.items c.over_unit.new.goals.items c.push_through.new.goals.items (ap names_in c.as_slice.ensures.value) (ap names_in c.as_slice-2.ensures.value) c.in_ok-push_started.ensures c.in_ok-found.ensures
-      (subst (λ (o : Over). IsOver o (site_of c.args.site.now) (exp_tree c.args.unit.now) c.in_ok-found.found c.push_started.new.goals.items c.over_unit.new.goals.items c.over_unit.new.slots) c.in-Range.is c.in_ok-over.ensures.is) c.in_ok-push_through-in-Range.ensures;
+      (subst (λ (o : Over). IsOver o (site_of c.args.site.now) (exp_tree c.args.unit.now) (lowered c.push_started.new.goals.items c.in_ok-found.found) (lowered c.over_unit.new.goals.items c.over_unit.new.slots)) c.in-Range.is c.in_ok-over.ensures.is) c.in_ok-push_through-in-Range.ensures;
   helpers = c.in_ok-over.ensures.helpers;
 }
 
@@ -619,13 +619,13 @@ pub over::push_gone_over-returns-in_ok-push_over-in-Collection : goal.over::push
 over::push_gone_over-returns-in_ok-push_over-in-Collection t c = record {
   is = over-collection (site_of c.args.site.now) (names_in c.as_slice.result.now) (names_in c.as_slice-2.result.now) (loop_of c.args.whole.now) (exp_tree c.args.unit.now) c.in-Collection.term c.args.slots.now c.push_started.new.slots c.in_ok-found.found c.over_unit.new.slots c.push_over.new.slots
       c.args.goals.now.items c.push_started.new.goals.items c.over_unit.new.goals.items c.push_over.new.goals.items (ap names_in c.as_slice.ensures.value) (ap names_in c.as_slice-2.ensures.value) c.in_ok-push_started.ensures c.in_ok-found.ensures
-      (subst (λ (o : Over). IsOver o (site_of c.args.site.now) (exp_tree c.args.unit.now) c.in_ok-found.found c.push_started.new.goals.items c.over_unit.new.goals.items c.over_unit.new.slots) c.in-Collection.is c.in_ok-over.ensures.is) c.in_ok-push_over-in-Collection.ensures;
+      (subst (λ (o : Over). IsOver o (site_of c.args.site.now) (exp_tree c.args.unit.now) (lowered c.push_started.new.goals.items c.in_ok-found.found) (lowered c.over_unit.new.goals.items c.over_unit.new.slots)) c.in-Collection.is c.in_ok-over.ensures.is) c.in_ok-push_over-in-Collection.ensures;
   helpers = c.in_ok-over.ensures.helpers;
 }
 
 pub over::over_unit-returns-in-Call : goal.over::over_unit-returns-in-Call
 over::over_unit-returns-in-Call t c = IfOk-weaker c.over_args.result _ _ (λ over so.
-    subst (λ (u : ExpTree). With (IsOver over (site_of c.args.site.now) u c.args.slots.now c.args.goals.now.items c.over_args.new.goals.items c.over_args.new.slots) c.args.helpers.now.items c.over_args.new.helpers.items (collection_helpers (site_of c.args.site.now) u))
+    subst (λ (u : ExpTree). With (IsOver over (site_of c.args.site.now) u (lowered c.args.goals.now.items c.args.slots.now) (lowered c.over_args.new.goals.items c.over_args.new.slots)) c.args.helpers.now.items c.over_args.new.helpers.items (collection_helpers (site_of c.args.site.now) u))
     (sym (call-now c.args.unit.now c.in-Call.field-0 c.in-Call.args c.as_slice.result.now c.in-Call.is c.as_slice.ensures.value)) (so c.in-Call.field-0)) c.over_args.ensures
 
 pub over::over_unit-returns-in_ok-term-in_default : goal.over::over_unit-returns-in_ok-term-in_default
@@ -648,7 +648,7 @@ pub over::over_args-returns : goal.over::over_args-returns
 over::over_args-returns t c = IfOk-weaker c.over_exp.result _ _ (λ over so name.
     let first : ExpTree = exp_tree (get_or c.args.args.now 0 c.index-args-1.result) in
     let rest : ExpTrees = exps_of (drop 2 c.args.args.now) in
-    subst (λ (es : ExpTrees). With (IsOver over (site_of c.args.site.now) (call name es) c.args.slots.now c.args.goals.now.items c.over_exp.new.goals.items c.over_exp.new.slots) c.args.helpers.now.items c.over_exp.new.helpers.items (collection_helpers (site_of c.args.site.now) (call name es)))
+    subst (λ (es : ExpTrees). With (IsOver over (site_of c.args.site.now) (call name es) (lowered c.args.goals.now.items c.args.slots.now) (lowered c.over_exp.new.goals.items c.over_exp.new.slots)) c.args.helpers.now.items c.over_exp.new.helpers.items (collection_helpers (site_of c.args.site.now) (call name es)))
     (sym (two-first c.args.args.now c.index-args-1.result c.if-args-lt2.false c.index-args-1.is)) (so name first rest)) c.over_exp.ensures
 
 pub over::over_steps-returns-in_ok-high-in-Some : goal.over::over_steps-returns-in_ok-high-in-Some
