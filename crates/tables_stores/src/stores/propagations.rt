@@ -4,10 +4,8 @@
 
 use crate::bench::Bench;
 use crate::stores::showing::show;
-use pi_constraints::StoredDomains;
-use pi_queue::{propagate, propagate_from};
-use pi_settling::PropStop;
-use pi_types::{Places, Work};
+use pi_queue::{PropStop, propagate, propagate_from};
+use pi_types::{Places, StoredDomains, Work};
 use tables_cases::{Case, Problem};
 
 /// Takes a step that propagates, and tells whether it is one.

@@ -5,8 +5,7 @@
 use crate::bench::{Bench, Reading};
 use crate::constraints::tell_constraint;
 use crate::stores::showing::show;
-use pi_prop_made::Posting;
-use pi_prop_read::{ConFault, read_constraint};
+use pi_prop::{ConFault, Posting, read_constraint};
 use pi_types::StateStore;
 use tables_cases::{Case, Problem};
 
