@@ -1,6 +1,5 @@
 //! What every layer of picatq speaks of, under one name: terms, syntax, core programs, domains and constraints, states and
-//! their stores, answers and
-//! logs.
+//! their stores, answers and logs.
 #![tactic(auto)]
 
 pub mod laws;

@@ -1,6 +1,5 @@
 //! Propagations: `propagate LIMIT` runs all constraints that were posted, and `from LIMIT NUMBER ..` those with these numbers,
-//! with no more than so many
-//! runs. Each shows how it ends.
+//! with no more than so many runs. Each shows how it ends.
 
 use crate::bench::Bench;
 use crate::stores::showing::show;

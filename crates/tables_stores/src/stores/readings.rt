@@ -1,6 +1,5 @@
 //! Readings of constraints, in the cases of readings: `read GOAL` shows how many new variables the goal posts and its
-//! constraints in words, or why it
-//! posts nothing.
+//! constraints in words, or why it posts nothing.
 
 use crate::bench::{Bench, Reading};
 use crate::constraints::tell_constraint;
