@@ -8,3 +8,5 @@ pub mod Signs
 pub mod Filling
 pub mod Outcomes
 pub mod Runs
+pub use Rattle.pi_syntax.specs.Names
+pub use Rattle.pi_syntax.specs.Prelude

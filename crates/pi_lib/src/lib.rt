@@ -24,5 +24,6 @@ mod texts;
 mod variables;
 
 pub use functions::call_function;
+pub use pi_syntax::{BuiltinKind, is_builtin, prelude};
 pub use predicates::{Outcome, call_predicate};
 pub use runs::{LibStep, LibValue, run_function, run_predicate};

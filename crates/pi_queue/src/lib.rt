@@ -18,4 +18,5 @@ mod waking;
 
 pub use changes::changed;
 pub use held_places::HeldPlaces;
+pub use pi_settling::PropStop;
 pub use propagation::{propagate, propagate_from};

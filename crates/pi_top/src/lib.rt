@@ -3,6 +3,7 @@
 #![tactic(auto)]
 
 pub mod asking;
+mod built;
 mod demo;
 pub mod fault_lines;
 pub mod files;
@@ -21,6 +22,7 @@ pub mod session_file;
 pub mod starting;
 mod top;
 
+pub use built::{unbuilt, unbuilt_goal};
 pub use demo::demo_text;
 pub use outcome::Outcome;
 pub use pi_top_words::{Options, RunMode, WordsFault, read_words};

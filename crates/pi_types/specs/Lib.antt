@@ -31,6 +31,7 @@ pub use Rattle.pi_constraints.specs.Match
 pub use Rattle.pi_constraints.specs.State
 pub use Rattle.pi_constraints.specs.StateLaws
 pub use Rattle.pi_constraints.specs.Store
+pub use Rattle.pi_constraints.specs.Stored
 pub use Rattle.pi_constraints.specs.Unify
 pub use Rattle.pi_constraints.specs.Evaluation
 pub use Rattle.pi_constraints.specs.HeadMatch

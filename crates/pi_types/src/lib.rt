@@ -1,6 +1,5 @@
 //! What every layer of picatq speaks of, under one name: terms, syntax, core programs, domains and constraints, states and
-//! their stores, answers and
-//! logs.
+//! their stores, answers and logs.
 #![tactic(auto)]
 
 pub mod laws;
@@ -9,7 +8,7 @@ mod tree_store;
 pub use pi_constraints::{
     Activation, Activations, AgentView, Cell, Constraint, Constraints, Domain, Domains, Event,
     Events, Item, Items, LinTerm, LinTerms, MAX_VALUE, Places, ReadStop, Ref, Rel, Span,
-    StateStore, VarDomain, VarDomains, Watch, Watches,
+    StateStore, StoredDomains, VarDomain, VarDomains, Watch, Watches,
 };
 pub use pi_core::{
     Answer, CallLog, CoreClause, CoreClauses, CoreGoal, CorePred, CorePreds, CoreProgram,

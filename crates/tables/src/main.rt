@@ -22,6 +22,7 @@ impl<R: Print + Input + AllocGlobal, F: Files> Subjects<R> for Tables<F> {
     fn answer_words(&mut self, rt: &R, subject: &str, text: &str, case: &Case) -> bool {
         tables_runs::answer_words(subject, text, case)
             || tables_stores::answer_words(subject, text, case)
+            || tables_names::answer_words(subject, case)
             || tables_values::answer_words(subject, case)
             || tables_values::answer_outside(rt, &mut self.files, subject, case)
     }

@@ -1,4 +1,5 @@
-//! Cases of runs of the whole program, over files, input and output in memory.
+//! Cases of runs of the whole program, over files, input and output in memory, and of the top crate's other calls.
+mod calls;
 mod command;
 mod runs;
 mod sessions;
@@ -12,6 +13,7 @@ pub fn answer_text(subject: &str, text: &str, line: &str, case: &Case) -> bool {
         "whole" => runs::answer(case, text, line),
         "failing_reads" => runs::answer_failing(case, text, line, Failing::Read),
         "failing_writes" => runs::answer_failing(case, text, line, Failing::Write),
+        "top" => calls::answer(case, line),
         "sessions" => sessions::answer(case, text, line),
         _ => return false,
     }

@@ -2,7 +2,7 @@
 
 use crate::case::Case;
 use crate::fault::Problem;
-use pi_constraints::{DomFault, of_list};
+use pi_dom::{DomFault, of_list};
 use pi_types::{Domain, Span, VarDomain};
 
 /// How many values a span has at most that is written down.

@@ -73,7 +73,7 @@ fn run<S: StateStore>(
     match Machine::new(case.alloc, core, query, store, Mode::Top) {
         Ok(mut machine) => {
             tell_all(case, &mut machine, budget, tells_kept);
-            drop(machine);
+            drop(machine.into_store());
         }
         Err(store) => {
             drop(store);

@@ -1,6 +1,6 @@
 //! Texts of answers: `A _7 B a : 3 -2..3 5..5` is the answer of A and B in which `_3` has a domain.
 
-use pi_print_terms::answer_text;
+use pi_print::answer_text;
 use pi_types::{Answer, NamedTerm, NamedTerms, VarDomain, VarDomains};
 use tables_cases::{Case, spans_of};
 

@@ -1,6 +1,5 @@
 //! Cases of terms, stores, and what is told of them: domains and texts of answers. Calls of built-ins, readings of constraints
-//! and propagations are steps
-//! on stores.
+//! and propagations are steps on stores.
 #![tactic(auto)]
 
 mod answers;

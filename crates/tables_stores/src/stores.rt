@@ -15,8 +15,7 @@ mod terms;
 
 use crate::bench::{Bench, Reading};
 use crate::kinds::raw_store;
-use pi_constraints::StoredDomains;
-use pi_types::TreeStore;
+use pi_types::{StoredDomains, TreeStore};
 use tables_cases::Case;
 
 /// Tells what the steps of a case show, taken on a `TreeStore`, and where the same steps on a `RawStore` show something else, that too.

@@ -1,6 +1,6 @@
 //! Terms as they are written down, and their texts.
 
-use pi_print_terms::term_text;
+use pi_print::term_text;
 use pi_types::{Term, TermHead};
 use std::alloc::AllocError;
 use tables_cases::{Case, named};

@@ -4,10 +4,9 @@
 use crate::bench::{Bench, Reading};
 use crate::kinds::raw_store;
 use crate::stores::take_steps;
-use pi_constraints::StoredDomains;
 use pi_engine_arenas::Run;
 use pi_engine_steps::answer as answer_of;
-use pi_types::{NameSlot, NameSlots, TreeStore};
+use pi_types::{NameSlot, NameSlots, StoredDomains, TreeStore};
 use tables_cases::{Case, Given, take_given, tell_domains};
 
 /// Tells the domains of an answer over a `TreeStore`, and where they are others over a `RawStore`, those too.

@@ -1,9 +1,9 @@
 //! Domains: how they are made, cut, met and read, step by step.
 
-use pi_constraints::{
-    DomFault, contains, cut_above, cut_below, max, meet, min, of_list, of_span, remove, size,
+use pi_dom::{
+    DomFault, Domain, Span, contains, cut_above, cut_below, max, meet, min, of_list, of_span,
+    remove, size,
 };
-use pi_types::{Domain, Span};
 use tables_cases::{Case, Problem, named, tell_span};
 
 /// How many values a progression can have.

@@ -1,8 +1,10 @@
 //! What filters leave. The first step of a case is the constraint, and each further one the domain at a place, `1..3 7` or `none`.
 //! Where the first step is `places` the places have no constraint, and are filtered as those of `distinct`.
 
-use pi_constraints::{Constraint, Domain, Domains};
-use pi_prop_filters::{filter, filter_distinct, filter_reified, is_within_limits, place_count};
+use pi_prop::filter;
+use pi_prop_filters::{is_within_limits, place_count};
+use pi_reif::{filter_distinct, filter_reified};
+use pi_types::{Constraint, Domain, Domains};
 use std::alloc::AllocError;
 use tables_cases::{Case, spans_of, take_constraint, tell_span};
 

@@ -1,8 +1,8 @@
 //! Graphs: what the bodies of a planner call come to at each state.
 
 use pi_plan::{Successor, Successors};
-use pi_print_terms::term_text;
-use pi_terms::{Term, Text};
+use pi_print::term_text;
+use pi_types::{Term, Text};
 use tables_cases::Case;
 
 /// What the bodies come to at a state where so much of the limit is left, or more.

@@ -1,6 +1,6 @@
 //! Operations on integers, and their values or faults.
 
-use pi_effects::{ArithFault, Op, evaluate};
+use pi_arith::{ArithFault, Op, evaluate};
 use tables_cases::{Case, named};
 
 /// Each operation with its word.

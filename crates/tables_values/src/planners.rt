@@ -5,7 +5,7 @@ ghost use Rattle.pi_plan.specs.Planner.{IsSound, waits_for};
 
 use crate::graph::{Entry, take_graph, text_of};
 use pi_plan::{PlanFault, PlanStep, Planner};
-use pi_terms::Term;
+use pi_types::Term;
 use tables_cases::{Case, Problem};
 
 /// How many states are asked for at most.

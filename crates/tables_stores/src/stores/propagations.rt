@@ -1,13 +1,10 @@
 //! Propagations: `propagate LIMIT` runs all constraints that were posted, and `from LIMIT NUMBER ..` those with these numbers,
-//! with no more than so many
-//! runs. Each shows how it ends.
+//! with no more than so many runs. Each shows how it ends.
 
 use crate::bench::Bench;
 use crate::stores::showing::show;
-use pi_constraints::StoredDomains;
-use pi_queue::{propagate, propagate_from};
-use pi_settling::PropStop;
-use pi_types::{Places, Work};
+use pi_queue::{PropStop, propagate, propagate_from};
+use pi_types::{Places, StoredDomains, Work};
 use tables_cases::{Case, Problem};
 
 /// Takes a step that propagates, and tells whether it is one.

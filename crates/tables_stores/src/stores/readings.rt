@@ -1,12 +1,10 @@
 //! Readings of constraints, in the cases of readings: `read GOAL` shows how many new variables the goal posts and its
-//! constraints in words, or why it
-//! posts nothing.
+//! constraints in words, or why it posts nothing.
 
 use crate::bench::{Bench, Reading};
 use crate::constraints::tell_constraint;
 use crate::stores::showing::show;
-use pi_prop_made::Posting;
-use pi_prop_read::{ConFault, read_constraint};
+use pi_prop::{ConFault, Posting, read_constraint};
 use pi_types::StateStore;
 use tables_cases::{Case, Problem};
 

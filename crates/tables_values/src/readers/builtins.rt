@@ -1,6 +1,7 @@
 //! Names, and what they are with so many arguments.
 
-use pi_syntax::{BuiltinKind, is_builtin, kind_of};
+use pi_lib::{BuiltinKind, is_builtin};
+use pi_syntax::kind_of;
 use std::str;
 use tables_cases::{Case, bytes_of};
 

@@ -1,8 +1,8 @@
 //! The prelude's text, its parts, and its verdict as a program.
 
 use crate::readers::programs::{read, tell_kinds};
+use pi_lib::prelude;
 use pi_prog::read_prelude;
-use pi_syntax::prelude;
 use std::alloc::{AllocError, Global};
 use tables_cases::{Case, named};
 

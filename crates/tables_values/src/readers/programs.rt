@@ -1,7 +1,7 @@
 //! Programs and goals, and their first faults or what they are.
 
 use crate::readers::tokens::tokens_of;
-use pi_print_program::program_text;
+use pi_print::program_text;
 use pi_prog::{ProgFault, read_goal, read_program};
 use pi_types::{Clause, Decl, Part, Program};
 use tables_cases::{Case, Problem};

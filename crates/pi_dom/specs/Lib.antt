@@ -1,0 +1,1 @@
+pub use Rattle.pi_constraints.specs.Domain

@@ -1,0 +1,9 @@
+pub use Rattle.pi_constraints.specs.Constraint
+pub use Rattle.pi_constraints.specs.State
+pub use Rattle.pi_constraints.specs.Store
+pub use Rattle.pi_prop_spec.specs.Places
+pub use Rattle.pi_prop_spec.specs.Filter
+pub use Rattle.pi_prop_spec.specs.Postings
+pub use Rattle.pi_prop_spec.specs.Steps
+pub use Rattle.pi_prop_filters.specs.Left
+pub use Rattle.pi_prop_read.specs.Faults
