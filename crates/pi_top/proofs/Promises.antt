@@ -17,15 +17,16 @@ use Rattle.pi_top.specs.declared.outcome.Outcome.{Outcome}
 use Rattle.pi_top.proofs.Completing.{complete}
 use Rattle.pi_top.proofs.EndStatuses.{counts-tell}
 use Rattle.pi_top.proofs.SessionStatuses.{AllTell, session-tells, session-whole, told-by}
+use Rattle.pi_top.specs.Told.{files_read, input_read, lists, sink_written}
 
 -- what the run itself gives of it
 pub record Gives {F I O : Type 0} (most : ℕ) (words : List (List ℕ)) (files : FilesOver F) (input : InputOver I) (out : SinkOver O) (outcome : Outcome) : Type 0 where
   pub statuses : outcome.status ≤ 9
   pub ends : ByReads files.has_read files.old files.new (λ reads. ByWrites out.wrote out.taken out.old out.new (λ writes. AsksNoSession (options words) →
-      Ends words (files.held files.new) outcome.queries outcome.log outcome.status (files_count files) (sink_count out) reads writes))
+      Ends words (files_read (files.held files.new) (files_count files) reads) (lists outcome.queries outcome.log) outcome.status (sink_written (sink_count out) writes)))
   pub session : ByReads files.has_read files.old files.new (λ reads. ByInput input.has_read input.rest input.old input.new (λ inputs. ByWrites out.wrote out.taken out.old out.new (λ writes.
       (asked : Options) → AsksSession (options words) asked →
-      SessionEnds asked (files.held files.new) most outcome.queries outcome.log outcome.status (files_count files) (input_count input) (sink_count out) reads inputs writes)))
+      SessionEnds asked (files_read (files.held files.new) (files_count files) reads) (input_read most (input_count input) inputs) (lists outcome.queries outcome.log) outcome.status (sink_written (sink_count out) writes))))
   pub spent : (asked : Options) → AsksSession (options words) asked → outcome.status ≡ 0 → IsSpent (input.rest input.new)
   pub never_falls : NeverFalls (out.faults out.old) (out.faults out.new)
   pub unread : ReadsNoFile (options words) → files.new ≡ files.old

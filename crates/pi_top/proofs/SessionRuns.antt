@@ -23,6 +23,7 @@ use Rattle.pi_top.specs.SessionCode.{AnswersSession, IsServedSoFar}
 use Rattle.pi_top.specs.SoleLine.{read_fault_line}
 use Rattle.pi_top.specs.Writing.{Writes}
 use Rattle.pi_outside.proofs.Kept.{kept-within}
+use Rattle.pi_top.specs.Told.{input_read}
 
 -- the bytes of a line that are kept ask what it asks
 line-asks : (kept : List ℕ) (P : List ℕ → Type 0) (of : OfLine (most_in_line + 1) kept P) → request_of kept ≡ request_of of.line
@@ -99,7 +100,7 @@ cut-at-end seen order manner program core most run ahead input queries new reads
 pub session-too-long : {S M : Type 0} (seen : S → StoreView M) (order : M → ℕ) (manner : Manner) (program : ProgramTree) (core : List PredTree) (most : ℕ) (run : Option (PresentRun S M)) (ahead : Ahead) (input : FaultCount)
     (queries : List QueryRun) (reads its : List SourceRead) (writes its_writes : List SinkWrite) (r : Result ℕ Stop) → IsServedSoFar seen order manner program core most run ahead queries reads writes → Stands input → PassesLimit ahead its →
     IfOk r (λ given. given ≡ 3) → IfErr r (λ stop. stop ≡ Write) → Writes (input_too_long_line ∷ []) r its_writes →
-    AnswersSession manner program most input queries r (reads ++ its) (writes ++ its_writes)
+    AnswersSession manner program (input_read most input (reads ++ its)) queries r (writes ++ its_writes)
 session-too-long seen order manner program core most run ahead input queries reads its writes its_writes (Ok status) s stands over three stops written =
     SessionComes.past_limit three stands its its_writes (up-to seen order manner program core most run ahead queries reads its writes its_writes s) over refl written.all
 session-too-long seen order manner program core most run ahead input queries reads its writes its_writes (Err Write) s stands over three stops written =
@@ -110,7 +111,7 @@ session-too-long seen order manner program core most run ahead input queries rea
 pub session-fault : {S M : Type 0} (seen : S → StoreView M) (order : M → ℕ) (manner : Manner) (program : ProgramTree) (core : List PredTree) (most : ℕ) (run : Option (PresentRun S M)) (ahead : Ahead) (input : FaultCount)
     (queries : List QueryRun) (reads its : List SourceRead) (writes its_writes : List SinkWrite) (r : Result ℕ Stop) → IsServedSoFar seen order manner program core most run ahead queries reads writes → Rises input → FailsReading ahead its →
     IfOk r (λ given. given ≡ 7) → IfErr r (λ stop. stop ≡ Write) → Writes (read_fault_line ∷ []) r its_writes →
-    AnswersSession manner program most input queries r (reads ++ its) (writes ++ its_writes)
+    AnswersSession manner program (input_read most input (reads ++ its)) queries r (writes ++ its_writes)
 session-fault seen order manner program core most run ahead input queries reads its writes its_writes (Ok status) s rises fails seven stops written =
     SessionComes.read_fault seven rises its its_writes (up-to seen order manner program core most run ahead queries reads its writes its_writes s) fails refl written.all
 session-fault seen order manner program core most run ahead input queries reads its writes its_writes (Err Write) s rises fails seven stops written =

@@ -34,3 +34,4 @@ pub mod SessionEnds
 pub mod Turn
 pub mod Over
 pub mod Promise
+pub mod Told

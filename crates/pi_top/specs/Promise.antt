@@ -13,6 +13,7 @@ use Rattle.pi_top.specs.Over.{FilesOver, InputOver, SinkOver, files_count, input
 use Rattle.pi_top.specs.Runs.{AllWithin}
 use Rattle.pi_top.specs.SessionEnds.{SessionEnds}
 use Rattle.pi_top.specs.declared.outcome.Outcome.{Outcome}
+use Rattle.pi_top.specs.Told.{files_read, input_read, lists, sink_written}
 
 -- so many bytes of a session's input are read at most
 pub record Promise {F I O : Type 0} (most : ℕ) (words : List (List ℕ)) (files : FilesOver F) (input : InputOver I) (out : SinkOver O) (outcome : Outcome) : Type 0 where
@@ -20,14 +21,14 @@ pub record Promise {F I O : Type 0} (most : ℕ) (words : List (List ℕ)) (file
   pub statuses : outcome.status ≤ 9
   -- Where the words ask no session, all that was read and written, and no more, makes the end of a run of these words, with this status.
   pub ends : ByReads files.has_read files.old files.new (λ reads. ByWrites out.wrote out.taken out.old out.new (λ writes. AsksNoSession (options words) →
-      Ends words (files.held files.new) outcome.queries outcome.log outcome.status (files_count files) (sink_count out) reads writes))
+      Ends words (files_read (files.held files.new) (files_count files) reads) (lists outcome.queries outcome.log) outcome.status (sink_written (sink_count out) writes)))
   -- Where they ask one, it makes the end of this session.
   pub session : ByReads files.has_read files.old files.new (λ reads. ByInput input.has_read input.rest input.old input.new (λ inputs. ByWrites out.wrote out.taken out.old out.new (λ writes.
       (asked : Options) → AsksSession (options words) asked →
-      SessionEnds asked (files.held files.new) most outcome.queries outcome.log outcome.status (files_count files) (input_count input) (sink_count out) reads inputs writes)))
+      SessionEnds asked (files_read (files.held files.new) (files_count files) reads) (input_read most (input_count input) inputs) (lists outcome.queries outcome.log) outcome.status (sink_written (sink_count out) writes))))
   -- Where nothing fails, what the words ask is done to its end, or memory is wanted.
   pub complete : ByWrites out.wrote out.taken out.old out.new (λ writes. (asked : Options) → AsksNoSession (options words) →
-      NothingFails words asked outcome.status (files_count files) (sink_count out) → Completes asked (files.held files.new) outcome.queries outcome.log outcome.status writes)
+      NothingFails words asked outcome.status (files_count files) (sink_count out) → Completes asked (files.held files.new) (lists outcome.queries outcome.log) outcome.status writes)
   -- So it is with a session.
   pub complete_session : (asked : Options) → NothingFailsInSession words asked outcome.status (files_count files) (input_count input) (sink_count out) →
       (outcome.status ≡ 0) ⊎ (outcome.status ≡ 9)

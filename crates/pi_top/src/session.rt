@@ -14,6 +14,7 @@ ghost use Rattle.pi_top.specs.AskingCode.{MayBeAsked};
 ghost use Rattle.pi_top.specs.PresentCode.{IsBounded};
 ghost use Rattle.pi_top.specs.ServingCode.{Keeps, ServesTo};
 ghost use Rattle.pi_top.specs.SessionCode.{AnswersSession};
+ghost use Rattle.pi_top.specs.Told.{input_read};
 
 use crate::asking::{GoalJudged, judge_goal};
 use crate::handed::{READ_FAULT, write_text};
@@ -60,8 +61,8 @@ impl<'p> Session<'p> {
         ensures comes { ByInput I.has_read I.rest input.old input.new
             (λ reads. ByWrites O.wrote O.taken out.old out.new
             (λ writes. MayBeAsked (source_tree self.now.program.now) (program_tree self.now.core.now) → 0 < self.now.manner.answers →
-            queries.old ≡ [] → AnswersSession self.now.manner (source_tree self.now.program.now) most
-            (counted (I.faults input.old) (I.faults input.new)) queries.new result reads writes)) }
+            queries.old ≡ [] → AnswersSession self.now.manner (source_tree self.now.program.now)
+            (input_read most (counted (I.faults input.old) (I.faults input.new)) reads) queries.new result writes)) }
     {
         let mut reader = LineReader::new(self.alloc, most)?;
         let mut present = None;

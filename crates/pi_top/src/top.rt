@@ -15,6 +15,7 @@ ghost use Rattle.pi_top.specs.Promise.{Promise};
 ghost use Rattle.pi_top.specs.Runs.{AllWithin};
 ghost use Rattle.pi_top_words.specs.Words.{options, places_of};
 ghost use Rattle.pi_top_words.specs.declared.asked.Options.{Options};
+ghost use Rattle.pi_top.specs.Told.{files_read, input_read, lists};
 
 use crate::demo::demo_text;
 use crate::files::{FileStop, read_file};
@@ -109,14 +110,15 @@ fn answered<F: Files, I: Source, O: Sink>(
     ensures answers { ByReads F.has_read files.old files.new
         (λ reads. ByWrites O.wrote O.taken out.old out.new (λ writes. queries.old ≡ [] →
         AsksNoSession (options (map string_bytes words.now)) →
-        AnswersBy (options (map string_bytes words.now)) (F.held files.new)
-        (counted (F.faults files.old) (F.faults files.new)) queries.new [] result reads writes)) }
+        AnswersBy (options (map string_bytes words.now))
+        (files_read (F.held files.new) (counted (F.faults files.old) (F.faults files.new)) reads)
+        (lists queries.new []) result writes)) }
     ensures session { ByReads F.has_read files.old files.new
         (λ reads. ByInput I.has_read I.rest input.old input.new
         (λ inputs. ByWrites O.wrote O.taken out.old out.new (λ writes. queries.old ≡ [] → (asked : Options) →
         AsksSession (options (map string_bytes words.now)) asked →
-        AnswersSessionFile asked (F.held files.new) most (counted (F.faults files.old) (F.faults files.new))
-        (counted (I.faults input.old) (I.faults input.new)) queries.new [] result reads inputs writes))) }
+        AnswersSessionFile asked (files_read (F.held files.new) (counted (F.faults files.old) (F.faults files.new)) reads)
+        (input_read most (counted (I.faults input.old) (I.faults input.new)) inputs) (lists queries.new []) result writes))) }
     ensures ran { (asked : Options) → options (map string_bytes words.now) ≡ Some asked → AllWithin asked.steps queries.old →
         AllWithin asked.steps queries.new }
 {
@@ -147,8 +149,8 @@ fn asked_of_file<F: Files, O: Sink>(
     ensures status { IfOk result (λ status. status < 8) }
     ensures answers { ByReads F.has_read files.old files.new
         (λ reads. ByWrites O.wrote O.taken out.old out.new (λ writes. 0 < asked.now.answers → queries.old ≡ [] →
-        AnswersFile asked.now (F.held files.new) (counted (F.faults files.old) (F.faults files.new)) queries.new [] result reads
-        writes)) }
+        AnswersFile asked.now (files_read (F.held files.new) (counted (F.faults files.old) (F.faults files.new)) reads)
+        (lists queries.new []) result writes)) }
     ensures ran { AllWithin asked.now.steps queries.old → AllWithin asked.now.steps queries.new }
 {
     let text = match read_file(alloc, files, asked.file.as_str()) {
@@ -173,7 +175,7 @@ fn asked_of_demo<O: Sink>(
     ensures no_read { IfOk result (λ status. status < 7) }
     ensures answers { ByWrites O.wrote O.taken out.old out.new (λ writes. 0 < asked.now.answers →
         is_some (places_of asked.now) ≡ true → queries.old ≡ [] → (files : FaultCount) → Stands files →
-        AnswersMade asked.now files queries.new [] result [] writes) }
+        AnswersMade asked.now files [] (lists queries.new []) result writes) }
     ensures ran { AllWithin asked.now.steps queries.old → AllWithin asked.now.steps queries.new }
 {
     let Some(places) = asked.places() else {
@@ -196,7 +198,7 @@ fn asked_of_text<O: Sink>(
     ensures writes { TellsWrites (O.faults out.old) (O.faults out.new) result }
     ensures no_read { IfOk result (λ status. status < 7) }
     ensures answers { ByWrites O.wrote O.taken out.old out.new (λ writes. 0 < asked.now.answers → queries.old ≡ []
-        → AnswersText (manner_of asked.now) text.items (goal_of asked.now) queries.new [] result writes) }
+        → AnswersText (manner_of asked.now) text.items (goal_of asked.now) (lists queries.new []) result writes) }
     ensures ran { AllWithin asked.now.steps queries.old → AllWithin asked.now.steps queries.new }
 {
     let goal = goal_of(asked);
