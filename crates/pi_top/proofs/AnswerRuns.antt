@@ -18,6 +18,7 @@ use Rattle.pi_top.specs.PresentCode.{IsInBudget, CanAnswer, IsListedLast, Answer
 use Rattle.pi_top.specs.Turn.{EndsAt, GoesOnAt, IsCutAt, TurnComes}
 use Rattle.pi_top.proofs.QueryRuns.{set-last}
 use Rattle.pi_top.proofs.RunLists.{AllWithin-put}
+use Rattle.pi_top.specs.QueryWords.{asked_query}
 
 -- what a request did to the budget of a query and to the list of the queries, of which it is the last
 pub record Requested {M : Type 0} (m : MachineView M) (b c : Budget) (earlier old new : List QueryRun) : Type 0 where
@@ -43,7 +44,7 @@ listed-last manner program q m b c given earlier old new first did can =
 -- what the request came to, where it could be made
 abbrev pub Turns : {M : Type 0} → Manner → List PredTree → QueryTree → MachineView M → MachineView M → Budget → Budget → ℕ → List SinkWrite → List SinkWrite → Result (Option ℕ) Stop → Type 0
 Turns manner program q m n b c given first writes r =
-    IsWritten manner.lines m b given program q first → IsRunnable program q → given < manner.answers → TurnComes manner.lines manner.answers given b.steps program q n c r (first ++ writes)
+    IsWritten manner.lines m b given program q first → IsRunnable program q → given < manner.answers → TurnComes (asked_query manner.lines manner.answers b.steps program q) given n c r (first ++ writes)
 
 pub answered-more : {M : Type 0} (manner : Manner) (program : List PredTree) (q : QueryTree) (m n : MachineView M) (b c : Budget) (given more : ℕ) (earlier old new : List QueryRun) (first writes : List SinkWrite) →
     Requested m b c earlier old new → CanAnswer manner program q m b given first → Turns manner program q m n b c given first writes (Ok (Some more)) →

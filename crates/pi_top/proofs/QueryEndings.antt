@@ -33,6 +33,7 @@ use Rattle.pi_top.proofs.EventLemmas.{behind-ticks, turn, ticks-turn, answers-tu
 use Rattle.pi_top.proofs.Fronts.{prefix-all}
 use Rattle.pi_top.proofs.HandedTexts.{hands-then, fails-then}
 use Rattle.pi_top.proofs.QueryRuns.{counted-ticks, earlier-part, HasPart, has-part, IsTail, tail-of}
+use Rattle.pi_top.specs.QueryWords.{asked_query}
 
 -- ---- what a query comes to behind so many answers, alike for each number of answers above these that is asked for
 
@@ -58,7 +59,7 @@ pub cut-with : (lines : Lines) (answers given steps : ℕ) (program : List PredT
 cut-with lines answers given steps program q ticks status writes less cut = record { run = cut.run; part = cut.part; is_part = cut.is_part; how = cut.how answers less }
 
 pub comes-with : (lines : Lines) (answers given steps : ℕ) (program : List PredTree) (q : QueryTree) (ticks : ℕ) (r : Result ℕ Stop) (writes : List SinkWrite) → given < answers →
-    ComesBehind lines given steps program q ticks r writes → ComesTo lines answers steps program q ticks r writes
+    ComesBehind lines given steps program q ticks r writes → ComesTo (asked_query lines answers steps program q) ticks r writes
 comes-with lines answers given steps program q ticks (Ok status) writes less is = record {
   run = is.run;
   part = is.part;
@@ -237,7 +238,7 @@ comes-end lines m n b c given steps program q Happening.StepsSpent has r first s
 -- a part with its last answer, behind which the line was to be written
 stopped-line : (lines : Lines) (answers steps : ℕ) (program : List PredTree) (q : QueryTree) (events : List (Emitted Solution)) (run : Cut Solution) (ticks : ℕ) (r : Result ℕ Stop) (first second : List SinkWrite) →
     IsQueryPart program q steps run events → EndsWithLast answers events → IfErr r (λ stop. stop ≡ Write) → ticks ≡ count_ticks events → HandsAll (print_solutions lines q.names events) first →
-    WritesLine lines Stopped r second → ComesTo lines answers steps program q ticks r (first ++ second)
+    WritesLine lines Stopped r second → ComesTo (asked_query lines answers steps program q) ticks r (first ++ second)
 stopped-line lines answers steps program q events run ticks (Ok status) first second part last alone count handed line = record {
   run = run;
   part = events;
@@ -254,7 +255,7 @@ stopped-line lines answers steps program q events run ticks (Err Memory) first s
 
 pub comes-stopped : {M : Type 0} (lines : Lines) (m : MachineView M) (b : Budget) (answers steps : ℕ) (program : List PredTree) (q : QueryTree) (r : Result ℕ Stop) (first second : List SinkWrite) →
     IsRunnable program q → 0 < answers → b.steps ≡ steps → IsWritten lines m b answers program q first → IfErr r (λ stop. stop ≡ Write) →
-    WritesLine lines Stopped r second → ComesTo lines answers steps program q b.ticks r (first ++ second)
+    WritesLine lines Stopped r second → ComesTo (asked_query lines answers steps program q) b.ticks r (first ++ second)
 comes-stopped lines m b answers steps program q r first second runnable some same w alone line =
     let events : List (Emitted Solution) = w.so_far.events in
     let few : count_ticks events ≤ steps = omega (arith, w.so_far.ticks, w.so_far.within.ticks, same) in

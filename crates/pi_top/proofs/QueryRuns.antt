@@ -29,6 +29,7 @@ use Rattle.pi_top.specs.Running.{print_solutions, IsQueryPart, IsAtStart, IsSoFa
 use Rattle.pi_top.specs.ToldLines.{where_told}
 use Rattle.pi_top.proofs.EventLemmas.{behind-ticks, ticks-behind, answers-behind, turn, print-turn, ticks-turn, answers-turn, last-turn, text-turn, print-text, ticks-text, answers-text}
 use Rattle.pi_top.proofs.HandedTexts.{hands-then}
+use Rattle.pi_top.specs.QueryWords.{asked_query}
 
 -- ---- a query's run
 
@@ -166,7 +167,7 @@ set-last runs listed new a b pushed set =
 
 -- a query that was asked is listed last
 pub has-run : (lines : Lines) (answers steps : ℕ) (program : List PredTree) (q : QueryTree) (old listed new : List QueryRun) (a run : QueryRun) (ticks : ℕ) (r : Result ℕ Stop) (writes : List SinkWrite) →
-    listed ≡ old ++ a ∷ [] → new ≡ slice_set listed (length listed - 1) run → run ≡ run_of ticks → ticks ≤ steps → ComesTo lines answers steps program q ticks r writes →
+    listed ≡ old ++ a ∷ [] → new ≡ slice_set listed (length listed - 1) run → run ≡ run_of ticks → ticks ≤ steps → ComesTo (asked_query lines answers steps program q) ticks r writes →
     HasRun lines answers steps program q old new r writes
 has-run lines answers steps program q old listed new a run ticks r writes pushed set is within comes = was_asked (record {
   ticks = ticks;

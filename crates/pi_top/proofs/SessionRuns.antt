@@ -24,6 +24,7 @@ use Rattle.pi_top.specs.SoleLine.{read_fault_line}
 use Rattle.pi_top.specs.Writing.{Writes}
 use Rattle.pi_outside.proofs.Kept.{kept-within}
 use Rattle.pi_top.specs.Told.{input_read}
+use Rattle.pi_top.specs.QueryWords.{listed_over, session_of}
 
 -- the bytes of a line that are kept ask what it asks
 line-asks : (kept : List ℕ) (P : List ℕ → Type 0) (of : OfLine (most_in_line + 1) kept P) → request_of kept ≡ request_of of.line
@@ -42,7 +43,7 @@ served-first seen order manner program core most queries none = record {
 -- one line more
 pub served-more : {S M : Type 0} (seen : S → StoreView M) (order : M → ℕ) (manner : Manner) (program : ProgramTree) (core : List PredTree) (most : ℕ) (run next : Option (PresentRun S M)) (ahead after : Ahead)
     (queries new : List QueryRun) (reads its : List SourceRead) (writes its_writes : List SinkWrite) (kept : List ℕ) → (s : IsServedSoFar seen order manner program core most run ahead queries reads writes) →
-    OfLine (most_in_line + 1) kept (λ line. FindsLine ahead its line after) → ServesAll seen order manner program core s.present (request_of kept) next queries new its_writes →
+    OfLine (most_in_line + 1) kept (λ line. FindsLine ahead its line after) → ServesAll (session_of seen order manner program core) s.present (request_of kept) next (listed_over queries new) its_writes →
     IsServedSoFar seen order manner program core most next after new (reads ++ its) (writes ++ its_writes)
 served-more seen order manner program core most run next ahead after queries new reads its writes its_writes kept s of is =
     let serves : Serves manner program [] s.present (request_of of.line) is.next queries new its_writes =
@@ -82,7 +83,7 @@ cut-at-line seen order manner program core most run ahead after input queries ne
 -- what stands behind the last line feed is served, or that is cut off
 pub session-ends : {S M : Type 0} (seen : S → StoreView M) (order : M → ℕ) (manner : Manner) (program : ProgramTree) (core : List PredTree) (most : ℕ) (run next : Option (PresentRun S M)) (ahead : Ahead) (input : FaultCount)
     (queries new : List QueryRun) (reads its : List SourceRead) (writes its_writes : List SinkWrite) (kept : List ℕ) → (s : IsServedSoFar seen order manner program core most run ahead queries reads writes) →
-    Stands input → OfLine (most_in_line + 1) kept (λ line. MeetsEnd ahead its line) → ServesAll seen order manner program core s.present (request_of kept) next queries new its_writes →
+    Stands input → OfLine (most_in_line + 1) kept (λ line. MeetsEnd ahead its line) → ServesAll (session_of seen order manner program core) s.present (request_of kept) next (listed_over queries new) its_writes →
     SessionComes manner program [] most input new 0 (reads ++ its) (writes ++ its_writes)
 session-ends seen order manner program core most run next ahead input queries new reads its writes its_writes kept s stands of is =
     SessionComes.to_its_end refl stands its its_writes (up-to seen order manner program core most run ahead queries reads its writes its_writes s) of.line is.next of.holds

@@ -17,6 +17,7 @@ use Rattle.pi_top.specs.ToldLines.{where_told}
 use Rattle.pi_top.specs.Turn.{EndsAt, IsCutAt}
 use Rattle.pi_top.proofs.QueryRuns.{written-start, written-answer}
 use Rattle.pi_top.proofs.QueryEndings.{EndsBehind}
+use Rattle.pi_top.specs.QueryWords.{asked_query}
 
 -- a query that begins may be asked for its first answer
 pub can-start : {M : Type 0} (manner : Manner) (m : MachineView M) (b : Budget) (program : List PredTree) (q : QueryTree) → IsAtStart m b manner.answers program q → b.steps ≡ manner.steps → CanAnswer manner program q m b 0 []
@@ -69,7 +70,7 @@ cut-at lines answers given steps its program q ticks status writes same less cut
 
 -- what it comes to with an end is its end
 pub ends-at-limit : (lines : Lines) (answers requests steps : ℕ) (program : List PredTree) (q : QueryTree) (ticks status : ℕ) (writes : List SinkWrite) → requests ≡ answers →
-    ComesTo lines requests steps program q ticks (Ok status) writes → EndsAt lines answers requests steps program q ticks writes
+    ComesTo (asked_query lines requests steps program q) ticks (Ok status) writes → EndsAt lines answers requests steps program q ticks writes
 ends-at-limit lines answers requests steps program q ticks status writes all is = record {
   run = is.run;
   part = is.part;

@@ -35,3 +35,4 @@ pub mod Turn
 pub mod Over
 pub mod Promise
 pub mod Told
+pub mod QueryWords

@@ -26,6 +26,7 @@ use Rattle.pi_top.specs.Stops.{status_of_stop}
 use Rattle.pi_top.specs.Handing.{HandsAll, FailsIn}
 use Rattle.pi_top.specs.Prefix.{IsPrefix}
 use Rattle.pi_top.specs.QueryEnd.{QueryEnd, status_of, count_answers, EndsWithLast, Ends}
+use Rattle.pi_top.specs.QueryWords.{ToldQuery, AskedQuery, asked_query}
 use Rattle.pi_top.specs.Runs.{no_work, run_of}
 use Rattle.pi_top.specs.ToldLines.{where_told, end_lines}
 
@@ -124,21 +125,21 @@ pub record IsNext {M : Type 0} (lines : Lines) (n : MachineView M) (c : Budget) 
   pub lasts : end_of n ≡ lasting happening
 
 -- that, or the writing of a text is cut off
-abbrev pub NextComes : {M : Type 0} → Lines → ℕ → List PredTree → QueryTree → MachineView M → Budget → Result Happening Stop → List SinkWrite → Type 0
-NextComes lines given program q n c (Ok happening) writes = IsNext lines n c given program q happening writes
-NextComes lines given program q n c (Err stop) writes = IsCutBehind lines given c.steps program q c.ticks (status_of_stop stop) writes
+abbrev pub NextComes : {M : Type 0} → ToldQuery → ℕ → MachineView M → Budget → Result Happening Stop → List SinkWrite → Type 0
+NextComes of given n c (Ok happening) writes = IsNext of.lines n c given of.program of.query happening writes
+NextComes of given n c (Err stop) writes = IsCutBehind of.lines given c.steps of.program of.query c.ticks (status_of_stop stop) writes
 
 -- what it comes to, by what is answered
-abbrev pub ComesTo : Lines → ℕ → ℕ → List PredTree → QueryTree → ℕ → Result ℕ Stop → List SinkWrite → Type 0
-ComesTo lines answers steps program q ticks (Ok status) writes = QueryEnds lines answers steps program q ticks status writes
-ComesTo lines answers steps program q ticks (Err stop) writes = QueryIsCut lines answers steps program q ticks (status_of_stop stop) writes
+abbrev pub ComesTo : AskedQuery → ℕ → Result ℕ Stop → List SinkWrite → Type 0
+ComesTo asked ticks (Ok status) writes = QueryEnds asked.lines asked.answers asked.steps asked.program asked.query ticks status writes
+ComesTo asked ticks (Err stop) writes = QueryIsCut asked.lines asked.answers asked.steps asked.program asked.query ticks (status_of_stop stop) writes
 
 -- it is listed behind those that were run before, with its Ticks, and comes to this
 pub record IsListed (lines : Lines) (answers steps : ℕ) (program : List PredTree) (q : QueryTree) (old new : List QueryRun) (r : Result ℕ Stop) (writes : List SinkWrite) : Type 0 where
   pub ticks : ℕ
   pub listed : new ≡ old ++ run_of ticks ∷ []
   pub within : ticks ≤ steps
-  pub comes : ComesTo lines answers steps program q ticks r writes
+  pub comes : ComesTo (asked_query lines answers steps program q) ticks r writes
 
 -- or memory is wanted before it is asked, and nothing is listed or written
 pub data HasRun (lines : Lines) (answers steps : ℕ) (program : List PredTree) (q : QueryTree) (old new : List QueryRun) (r : Result ℕ Stop) (writes : List SinkWrite) : Type 0 where

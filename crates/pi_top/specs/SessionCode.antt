@@ -15,13 +15,14 @@ use Rattle.pi_top.specs.Serving.{Present}
 use Rattle.pi_top.specs.Session.{ServedSoFar, SessionComes, SessionCut}
 use Rattle.pi_top.specs.ServingCode.{Keeps}
 use Rattle.pi_top.specs.Told.{InputRead}
+use Rattle.pi_top.specs.QueryWords.{session_of}
 
 -- these lines were served, and what the code has of the present query is this
 pub record IsServedSoFar {S M : Type 0} (seen : S → StoreView M) (order : M → ℕ) (manner : Manner) (program : ProgramTree) (core : List PredTree) (most : ℕ) (run : Option (PresentRun S M)) (ahead : Ahead) (queries : List QueryRun) (reads : List SourceRead) (writes : List SinkWrite) : Type 0 where
   pub lines : List (List ℕ)
   pub present : Present
   pub so_far : ServedSoFar manner program [] most lines present queries ahead reads writes
-  pub keeps : Keeps seen order manner program core run present queries
+  pub keeps : Keeps (session_of seen order manner program core) run present queries
 
 -- by what is answered
 abbrev pub AnswersSession : Manner → ProgramTree → InputRead → List QueryRun → Result ℕ Stop → List SinkWrite → Type 0

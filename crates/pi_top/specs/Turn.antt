@@ -12,6 +12,7 @@ use Rattle.pi_top.specs.declared.query.Stop.{Stop}
 use Rattle.pi_top.specs.Stops.{status_of_stop}
 use Rattle.pi_top.specs.Handing.{HandsAll}
 use Rattle.pi_top.specs.QueryEnd.{QueryEnd, Stopped, Ends}
+use Rattle.pi_top.specs.QueryWords.{AskedQuery}
 use Rattle.pi_top.specs.Running.{print_solutions, IsQueryPart, HowQueryIsCut, IsWritten}
 use Rattle.pi_top.specs.ToldLines.{end_lines}
 
@@ -40,7 +41,7 @@ pub record IsCutAt (lines : Lines) (answers requests steps : ℕ) (program : Lis
   pub in_all : HowQueryIsCut lines answers q run part ticks status writes
 
 -- by what is answered, where so many answers were written before
-abbrev pub TurnComes : {M : Type 0} → Lines → ℕ → ℕ → ℕ → List PredTree → QueryTree → MachineView M → Budget → Result (Option ℕ) Stop → List SinkWrite → Type 0
-TurnComes lines answers given steps program q n c (Ok (Some more)) writes = (more ≡ given + 1) × GoesOnAt lines answers (given + 1) program q n c writes
-TurnComes lines answers given steps program q n c (Ok None) writes = EndsAt lines answers (given + 1) steps program q c.ticks writes
-TurnComes lines answers given steps program q n c (Err stop) writes = IsCutAt lines answers (given + 1) steps program q c.ticks (status_of_stop stop) writes
+abbrev pub TurnComes : {M : Type 0} → AskedQuery → ℕ → MachineView M → Budget → Result (Option ℕ) Stop → List SinkWrite → Type 0
+TurnComes asked given n c (Ok (Some more)) writes = (more ≡ given + 1) × GoesOnAt asked.lines asked.answers (given + 1) asked.program asked.query n c writes
+TurnComes asked given n c (Ok None) writes = EndsAt asked.lines asked.answers (given + 1) asked.steps asked.program asked.query c.ticks writes
+TurnComes asked given n c (Err stop) writes = IsCutAt asked.lines asked.answers (given + 1) asked.steps asked.program asked.query c.ticks (status_of_stop stop) writes

@@ -9,6 +9,7 @@ use Rattle.pi_top.specs.Stops.{status_of_stop}
 use Rattle.pi_top.specs.Running.{QueryIsCut, IsAtStart, IsWritten, NextComes}
 use Rattle.pi_top.proofs.QueryRuns.{written-start, written-answer}
 use Rattle.pi_top.proofs.QueryEndings.{cut-with, comes-with, comes-stopped, comes-cut, comes-end}
+use Rattle.pi_top.specs.QueryWords.{told_query}
 use Rattle.pi_top.proofs.query.write_answers.Goals as goal
 
 pub loop-given-init : goal.loop-given-init
@@ -42,7 +43,7 @@ returns-in_err-write_answer-in-Answer-clause-comes g c =
     let n = machine_view g.S.StateStore.seen g.S.StateStore.order c.next_told.new.machine in
     let asked : ByWrites g.O.Sink.wrote g.O.Sink.taken c.args.out.now c.next_told.new.out (λ writes. (program : List PredTree) (q : QueryTree) →
     IsAtStart (machine_view g.S.StateStore.seen g.S.StateStore.order c.args.machine.now) c.args.budget.now c.args.manner.now.answers program q →
-    NextComes c.args.manner.now.lines l.given program q n c.next_told.new.budget (Ok c.in_ok-end.end) writes) =
+    NextComes (told_query c.args.manner.now.lines program q) l.given n c.next_told.new.budget (Ok c.in_ok-end.end) writes) =
     ByWrites-then l.invariant.so_far next.comes (λ first second so_far comes. λ program q is.
     comes c.args.manner.now.lines first l.given program q (so_far program q is).so_far is.runnable) in
     let p = err_from_is_err_and c.from_residual-in_err-write_answer-in-Answer.result c.from_residual-in_err-write_answer-in-Answer.ensures.1 in
@@ -61,7 +62,7 @@ returns-in_default g c =
     let n = machine_view g.S.StateStore.seen g.S.StateStore.order c.next_told.new.machine in
     let asked : ByWrites g.O.Sink.wrote g.O.Sink.taken c.args.out.now c.next_told.new.out (λ writes. (program : List PredTree) (q : QueryTree) →
     IsAtStart (machine_view g.S.StateStore.seen g.S.StateStore.order c.args.machine.now) c.args.budget.now c.args.manner.now.answers program q →
-    NextComes c.args.manner.now.lines l.given program q n c.next_told.new.budget (Ok c.in_ok-end.end) writes) =
+    NextComes (told_query c.args.manner.now.lines program q) l.given n c.next_told.new.budget (Ok c.in_ok-end.end) writes) =
     ByWrites-then l.invariant.so_far next.comes (λ first second so_far comes. λ program q is.
     comes c.args.manner.now.lines first l.given program q (so_far program q is).so_far is.runnable) in
     record {
@@ -85,7 +86,7 @@ loop-given-preserved g c =
     let n = machine_view g.S.StateStore.seen g.S.StateStore.order c.next_told.new.machine in
     let asked : ByWrites g.O.Sink.wrote g.O.Sink.taken c.args.out.now c.next_told.new.out (λ writes. (program : List PredTree) (q : QueryTree) →
     IsAtStart (machine_view g.S.StateStore.seen g.S.StateStore.order c.args.machine.now) c.args.budget.now c.args.manner.now.answers program q →
-    NextComes c.args.manner.now.lines l.given program q n c.next_told.new.budget (Ok c.in_ok-end.end) writes) =
+    NextComes (told_query c.args.manner.now.lines program q) l.given n c.next_told.new.budget (Ok c.in_ok-end.end) writes) =
     ByWrites-then l.invariant.so_far next.comes (λ first second so_far comes. λ program q is.
     comes c.args.manner.now.lines first l.given program q (so_far program q is).so_far is.runnable) in
     record {
