@@ -39,6 +39,7 @@ use Rattle.pi_top.specs.Writing.{Writes}
 use Rattle.pi_top.proofs.OverNames.{ends-over-names, cut-over-names}
 use Rattle.pi_top.proofs.SoleLines.{line-all, line-front, is-nothing}
 use Rattle.pi_top.specs.Told.{files_read, lists}
+use Rattle.pi_top.specs.QueryWords.{asked_in}
 
 -- what is written of a greater thing
 widens : {P Q : List (List ℕ) → Type 0} (writes : List SinkWrite) → ((texts : List (List ℕ)) → P texts → Q texts) → Written P writes → Written Q writes
@@ -64,7 +65,7 @@ has-ran manner ticks is goal queries status writes listed w =
     widens writes (λ texts headline. record { ticks = ticks; listed = listed; headline = headline }) w
 
 pub text-ran : (manner : Manner) (text goal : List ℕ) (program : List PredTree) (q : QueryTree) (old new : List QueryRun) (r : Result ℕ Stop) (writes : List SinkWrite) →
-    old ≡ [] → IsAsked text goal program q → HasRun manner.lines manner.answers manner.steps program q old new r writes → AnswersText manner text goal (lists new []) r writes
+    old ≡ [] → IsAsked text goal program q → HasRun (asked_in manner program q) old new r writes → AnswersText manner text goal (lists new []) r writes
 text-ran manner text goal program q old new (Ok status) writes none is (not_asked memory listed nothing) = absurd (cc)
 text-ran manner text goal program q old new (Ok status) writes none is (was_asked has) =
     widens writes (λ texts comes. ran is.source is.asked is.asks comes)

@@ -12,7 +12,7 @@ use Rattle.pi_top.specs.declared.runs.QueryRun.{QueryRun}
 use Rattle.pi_top.specs.declared.present.Present.{Present as PresentRun}
 use Rattle.pi_top.specs.declared.query.Stop.{Stop}
 use Rattle.pi_top.specs.Stops.{status_of_stop}
-use Rattle.pi_top.specs.QueryWords.{BegunQuery}
+use Rattle.pi_top.specs.QueryWords.{BegunQuery, asked_in, told_query}
 use Rattle.pi_top.specs.Running.{IsWritten}
 use Rattle.pi_top.specs.Runs.{no_work, run_of}
 use Rattle.pi_top.specs.Turn.{EndsAt, IsCutAt}
@@ -29,7 +29,7 @@ IsBounded steps (Some present) = IsInBudget steps present.budget
 
 -- so many of its answers were written, by these writes, and more of them are asked for
 pub record CanAnswer {M : Type 0} (manner : Manner) (program : List PredTree) (q : QueryTree) (m : MachineView M) (budget : Budget) (given : ℕ) (first : List SinkWrite) : Type 0 where
-  pub written : IsWritten manner.lines m budget given program q first
+  pub written : IsWritten (told_query manner.lines program q) m budget given first
   pub runnable : IsRunnable program q
   pub fewer : given < manner.answers
   pub its_steps : budget.steps ≡ manner.steps
@@ -48,13 +48,13 @@ pub record AnswersMore {M : Type 0} (manner : Manner) (program : List PredTree) 
 -- its end was written
 pub record AnswersEnd (manner : Manner) (program : List PredTree) (q : QueryTree) (given : ℕ) (earlier queries : List QueryRun) (writes : List SinkWrite) : Type 0 where
   pub ticks : ℕ
-  pub ends : EndsAt manner.lines manner.answers (given + 1) manner.steps program q ticks writes
+  pub ends : EndsAt (asked_in manner program q) (given + 1) ticks writes
   pub last : IsListedLast earlier ticks queries
 
 -- it was cut off
 pub record AnswersCut (manner : Manner) (program : List PredTree) (q : QueryTree) (given : ℕ) (earlier queries : List QueryRun) (status : ℕ) (writes : List SinkWrite) : Type 0 where
   pub ticks : ℕ
-  pub cut : IsCutAt manner.lines manner.answers (given + 1) manner.steps program q ticks status writes
+  pub cut : IsCutAt (asked_in manner program q) (given + 1) ticks status writes
   pub last : IsListedLast earlier ticks queries
 
 -- what a request of it comes to, by what is answered

@@ -27,6 +27,10 @@ pub record AskedQuery : Type 0 where
 abbrev pub asked_query : Lines → ℕ → ℕ → List PredTree → QueryTree → AskedQuery
 asked_query lines answers steps program query = record { lines = lines; answers = answers; steps = steps; program = program; query = query }
 
+-- in some manner
+abbrev pub asked_in : Manner → List PredTree → QueryTree → AskedQuery
+asked_in manner program query = asked_query manner.lines manner.answers manner.steps program query
+
 -- a query of a core program of which so many answers were written, listed behind these
 pub record BegunQuery : Type 0 where
   pub program : List PredTree

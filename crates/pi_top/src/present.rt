@@ -12,7 +12,7 @@ ghost use Rattle.pi_top.specs.Running.{IsWritten};
 ghost use Rattle.pi_top.specs.Runs.{AllWithin};
 ghost use Rattle.pi_top.specs.PresentCode.{IsInBudget, IsBounded, CanAnswer, AnswerComes};
 ghost use Rattle.pi_top.specs.Turn.{TurnComes};
-ghost use Rattle.pi_top.specs.QueryWords.{asked_query, begun_query};
+ghost use Rattle.pi_top.specs.QueryWords.{asked_query, begun_query, told_query};
 
 use crate::manner::Manner;
 use crate::query::{Stop, ended_behind_answers, next_told, run_of, write_answer, write_end};
@@ -83,7 +83,7 @@ fn write_next<S: StateStore, O: Sink>(
     ensures work { mode_of (machine_view S.seen S.order machine.old) ≡ Mode.Top → budget.new.work ≡ budget.old.work }
     ensures comes { ByWrites O.wrote O.taken out.old out.new
         (λ writes. (first : List SinkWrite) (program : List PredTree) (q : QueryTree) →
-        IsWritten manner.now.lines (machine_view S.seen S.order machine.old) budget.old given program q first →
+        IsWritten (told_query manner.now.lines program q) (machine_view S.seen S.order machine.old) budget.old given first →
         IsRunnable program q → given < manner.now.answers →
         TurnComes (asked_query manner.now.lines manner.now.answers budget.old.steps program q) given
         (machine_view S.seen S.order machine.new) budget.new result (first ++ writes)) }

@@ -37,7 +37,7 @@ loop-turn-preserved g c =
       no_fault = c.in_ok-write_text-in-Out.ensures.no_fault ∙ l.invariant.no_fault;
       so_far = ByWrites-then l.invariant.so_far (rw c.as_str.ensures at c.in_ok-write_text-in-Out.ensures.hands) (λ before its earlier handed. λ lines first given program q start.
           let w = earlier lines first given program q start in
-          subst (IsSoFar lines n c.next.new.budget given program q) (append_assoc first before its)
+          subst (IsSoFar (told_query lines program q) n c.next.new.budget given) (append_assoc first before its)
           (written-text lines m n l.budget c.next.new.budget given program q c.in-Out.text (first ++ before) its
           w called (next.ticks w.running (query_view []) program q w.events w.runs) next.lasts (hands-one c.in-Out.text its handed)));
     }
