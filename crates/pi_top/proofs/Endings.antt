@@ -60,7 +60,7 @@ text-nothing manner text goal queries none = cut.nothing (is-nothing queries non
 
 -- a goal was run
 has-ran : (manner : Manner) (ticks : ℕ) (is : ProgramTree) (goal : ExpTree) (queries : List QueryRun) (status : ℕ) (writes : List SinkWrite) → queries ≡ run_of ticks ∷ [] →
-    Written (Headline manner is goal [] ticks status) writes → Written (HasRan manner is goal [] queries status) writes
+    Written (Headline manner is goal [] ticks status) writes → Written (HasRan manner is goal (lists queries []) status) writes
 has-ran manner ticks is goal queries status writes listed w =
     widens writes (λ texts headline. record { ticks = ticks; listed = listed; headline = headline }) w
 

@@ -148,7 +148,7 @@ pub record AreOneOutcome (queries runs : List QueryRun) (status other : ℕ) (te
   pub same_texts : texts ≡ more
 
 one-ran : (manner : Manner) (log : List LogEntry) (p q : ProgramTree) (e f : ExpTree) (queries runs : List QueryRun) (status other : ℕ) (texts more : List (List ℕ)) → q ≡ p → f ≡ e →
-    HasRan manner p e log queries status texts → HasRan manner q f log runs other more → AreOneOutcome queries runs status other texts more
+    HasRan manner p e (lists queries log) status texts → HasRan manner q f (lists runs log) other more → AreOneOutcome queries runs status other texts more
 one-ran manner log p q e f queries runs status other texts more program goal a b =
     let head : Headline manner p e log b.ticks other more = rw (program, goal) at b.headline in
     let same = one-headline manner p e log a.ticks b.ticks status other texts more a.headline head in

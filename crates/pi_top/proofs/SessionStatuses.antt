@@ -49,7 +49,7 @@ record InputTells (input : FaultCount) (status : ℕ) : Type 0 where
   pub well : status ≢ 7 → Stands input
 
 comes-tell : (manner : Manner) (program : ProgramTree) (log : List LogEntry) (most : ℕ) (input : FaultCount) (queries : List QueryRun) (status : ℕ) (inputs : List SourceRead) (writes : List SinkWrite) →
-    SessionComes manner program log most input queries status inputs writes → InputTells input status
+    SessionComes manner program (input_read most input inputs) (lists queries log) status writes → InputTells input status
 comes-tell manner program log most input queries status inputs writes (SessionComes.to_its_end at_end stands its its_writes served line next meets serves) =
     record { below = omega (arith, at_end); failed = λ seven. absurd (omega (arith, at_end, seven)); well = λ other. stands }
 comes-tell manner program log most input queries status inputs writes (SessionComes.past_limit three stands its its_writes served passes same handed) =
@@ -80,7 +80,7 @@ file-tells asked held most files input queries log status reads inputs writes (S
 
 -- where memory was wanted no read failed
 cut-stands : (manner : Manner) (program : ProgramTree) (log : List LogEntry) (most : ℕ) (input : FaultCount) (queries : List QueryRun) (status : ℕ) (inputs : List SourceRead) (writes : List SinkWrite) → status ≢ 8 →
-    SessionCut manner program log most input queries status inputs writes → Stands input
+    SessionCut manner program (input_read most input inputs) (lists queries log) status writes → Stands input
 cut-stands manner program log most input queries status inputs writes other (SessionCut.while_reading nine stands its served stops same) = stands
 cut-stands manner program log most input queries status inputs writes other (SessionCut.at_a_line stands its its_writes served line after finds is) = stands
 cut-stands manner program log most input queries status inputs writes other (SessionCut.at_its_end stands its its_writes served line meets is) = stands
@@ -194,7 +194,7 @@ asks-this words asked other held most files input queries r reads inputs writes 
 -- ---- where nothing fails
 
 comes-whole : (manner : Manner) (program : ProgramTree) (log : List LogEntry) (most : ℕ) (input : FaultCount) (queries : List QueryRun) (status : ℕ) (inputs : List SourceRead) (writes : List SinkWrite) → status ≢ 3 →
-    (Rises input → ⊥) → SessionComes manner program log most input queries status inputs writes → status ≡ 0
+    (Rises input → ⊥) → SessionComes manner program (input_read most input inputs) (lists queries log) status writes → status ≡ 0
 comes-whole manner program log most input queries status inputs writes no_three no_fault (SessionComes.to_its_end at_end stands its its_writes served line next meets serves) = at_end
 comes-whole manner program log most input queries status inputs writes no_three no_fault (SessionComes.past_limit three stands its its_writes served passes same handed) = absurd (no_three three)
 comes-whole manner program log most input queries status inputs writes no_three no_fault (SessionComes.read_fault seven rises its its_writes served fails same handed) = absurd (no_fault rises)

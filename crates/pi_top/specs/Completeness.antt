@@ -40,7 +40,7 @@ pub record IsComplete (asked : Options) (held : Option Holding) (runs : Lists) (
   pub program : ProgramTree
   pub of_program : ExpTree
   pub asks : Asks text (goal_of asked) program of_program
-  pub ran : Written (HasRan (manner_of asked) program of_program runs.log runs.queries status) writes
+  pub ran : Written (HasRan (manner_of asked) program of_program runs status) writes
 
 -- the program was printed whole: its status is 0
 pub record IsPrinted (asked : Options) (held : Option Holding) (queries : List QueryRun) (status : ℕ) (writes : List SinkWrite) : Type 0 where

@@ -29,7 +29,7 @@ pub data CutText (manner : Manner) (text goal : List ℕ) (runs : Lists) (status
   nothing : IsNothing runs.queries status writes → CutText manner text goal runs status writes
   refused : (line : List ℕ) → Refused text goal line → IsFront line runs.queries status writes → CutText manner text goal runs status writes
   running : (program : ProgramTree) (of_program : ExpTree) → Asks text goal program of_program →
-      WasCutOff manner program of_program runs.log runs.queries status writes → CutText manner text goal runs status writes
+      WasCutOff manner program of_program runs status writes → CutText manner text goal runs status writes
 
 -- with a program's text that is printed
 pub data CutPrinted (text : List ℕ) (queries : List QueryRun) (status : ℕ) (writes : List SinkWrite) : Type 0 where

@@ -14,7 +14,7 @@ use Rattle.pi_top.specs.Stops.{status_of_stop}
 use Rattle.pi_top.specs.Serving.{Present}
 use Rattle.pi_top.specs.Session.{ServedSoFar, SessionComes, SessionCut}
 use Rattle.pi_top.specs.ServingCode.{Keeps}
-use Rattle.pi_top.specs.Told.{InputRead}
+use Rattle.pi_top.specs.Told.{InputRead, lists}
 use Rattle.pi_top.specs.QueryWords.{session_of}
 
 -- these lines were served, and what the code has of the present query is this
@@ -26,5 +26,5 @@ pub record IsServedSoFar {S M : Type 0} (seen : S → StoreView M) (order : M �
 
 -- by what is answered
 abbrev pub AnswersSession : Manner → ProgramTree → InputRead → List QueryRun → Result ℕ Stop → List SinkWrite → Type 0
-AnswersSession manner program input queries (Ok status) writes = SessionComes manner program [] input.most input.count queries status input.reads writes
-AnswersSession manner program input queries (Err stop) writes = SessionCut manner program [] input.most input.count queries (status_of_stop stop) input.reads writes
+AnswersSession manner program input queries (Ok status) writes = SessionComes manner program input (lists queries []) status writes
+AnswersSession manner program input queries (Err stop) writes = SessionCut manner program input (lists queries []) (status_of_stop stop) writes

@@ -35,7 +35,7 @@ pub record WasRead (asked : Options) (files : FilesRead) (text : List ℕ) : Typ
 -- what was written where no goal is asked of a program's text, or the goals of the input are
 pub data SessionText (asked : Options) (text : List ℕ) (input : InputRead) (runs : Lists) (status : ℕ) (writes : List SinkWrite) : Type 0 where
   refused : IsUntouched input.count input.reads → (line : List ℕ) → IsUnready text line → Written (IsLine line 3 status runs.queries) writes → SessionText asked text input runs status writes
-  served : (program : ProgramTree) → IsReady text program → SessionComes (as_asked asked) program runs.log input.most input.count runs.queries status input.reads writes →
+  served : (program : ProgramTree) → IsReady text program → SessionComes (as_asked asked) program input runs status writes →
       SessionText asked text input runs status writes
 
 -- with a program that is in a file: a read of it failed, and was the last, or its text was read and none failed
@@ -48,7 +48,7 @@ pub data SessionFile (asked : Options) (files : FilesRead) (input : InputRead) (
 pub data CutSessionText (asked : Options) (text : List ℕ) (input : InputRead) (runs : Lists) (status : ℕ) (writes : List SinkWrite) : Type 0 where
   nothing : IsUntouched input.count input.reads → IsNothing runs.queries status writes → CutSessionText asked text input runs status writes
   refused : IsUntouched input.count input.reads → (line : List ℕ) → IsUnready text line → IsFront line runs.queries status writes → CutSessionText asked text input runs status writes
-  serving : (program : ProgramTree) → IsReady text program → SessionCut (as_asked asked) program runs.log input.most input.count runs.queries status input.reads writes →
+  serving : (program : ProgramTree) → IsReady text program → SessionCut (as_asked asked) program input runs status writes →
       CutSessionText asked text input runs status writes
 
 pub data CutSessionFile (asked : Options) (files : FilesRead) (input : InputRead) (runs : Lists) (status : ℕ) (writes : List SinkWrite) : Type 0 where

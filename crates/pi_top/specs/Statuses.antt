@@ -29,7 +29,7 @@ usage_line = codes "usage: picatq [--answers N] [--steps N] [--work N] [--mode q
 pub data ComesText (manner : Manner) (text goal : List ℕ) (runs : Lists) (status : ℕ) (texts : List (List ℕ)) : Type 0 where
   refused : (line : List ℕ) → Refused text goal line → IsLine line 3 status runs.queries texts → ComesText manner text goal runs status texts
   ran : (program : ProgramTree) (of_program : ExpTree) → Asks text goal program of_program →
-      HasRan manner program of_program runs.log runs.queries status texts → ComesText manner text goal runs status texts
+      HasRan manner program of_program runs status texts → ComesText manner text goal runs status texts
 
 -- with a program's text that is printed: the line of its fault, or the canonical text of the program that it is
 pub data ComesPrinted (text : List ℕ) (queries : List QueryRun) (status : ℕ) (texts : List (List ℕ)) : Type 0 where
