@@ -18,6 +18,7 @@ use Rattle.pi_top.specs.PresentCode.{IsInBudget, CanAnswer, IsListedLast, Answer
 use Rattle.pi_top.specs.Turn.{EndsAt, GoesOnAt, IsCutAt, TurnComes}
 use Rattle.pi_top.proofs.QueryRuns.{set-last}
 use Rattle.pi_top.proofs.RunLists.{AllWithin-put}
+use Rattle.pi_top.specs.QueryWords.{asked_query, told_query}
 
 -- what a request did to the budget of a query and to the list of the queries, of which it is the last
 pub record Requested {M : Type 0} (m : MachineView M) (b c : Budget) (earlier old new : List QueryRun) : Type 0 where
@@ -43,17 +44,17 @@ listed-last manner program q m b c given earlier old new first did can =
 -- what the request came to, where it could be made
 abbrev pub Turns : {M : Type 0} → Manner → List PredTree → QueryTree → MachineView M → MachineView M → Budget → Budget → ℕ → List SinkWrite → List SinkWrite → Result (Option ℕ) Stop → Type 0
 Turns manner program q m n b c given first writes r =
-    IsWritten manner.lines m b given program q first → IsRunnable program q → given < manner.answers → TurnComes manner.lines manner.answers given b.steps program q n c r (first ++ writes)
+    IsWritten (told_query manner.lines program q) m b given first → IsRunnable program q → given < manner.answers → TurnComes (asked_query manner.lines manner.answers b.steps program q) given n c r (first ++ writes)
 
 pub answered-more : {M : Type 0} (manner : Manner) (program : List PredTree) (q : QueryTree) (m n : MachineView M) (b c : Budget) (given more : ℕ) (earlier old new : List QueryRun) (first writes : List SinkWrite) →
     Requested m b c earlier old new → CanAnswer manner program q m b given first → Turns manner program q m n b c given first writes (Ok (Some more)) →
     AnswersMore manner program q n c given more earlier new (first ++ writes)
 answered-more manner program q m n b c given more earlier old new first writes did can turns =
-    let turn : (more ≡ given + 1) × GoesOnAt manner.lines manner.answers (given + 1) program q n c (first ++ writes) = turns can.written can.runnable can.fewer in
+    let turn : (more ≡ given + 1) × GoesOnAt (told_query manner.lines program q) manner.answers (given + 1) n c (first ++ writes) = turns can.written can.runnable can.fewer in
     record {
       one_more = turn.0;
       can = record {
-        written = subst (λ k. IsWritten manner.lines n c k program q (first ++ writes)) (sym turn.0) turn.1.written;
+        written = subst (λ k. IsWritten (told_query manner.lines program q) n c k (first ++ writes)) (sym turn.0) turn.1.written;
         runnable = can.runnable;
         fewer = subst (λ k. k < manner.answers) (sym turn.0) turn.1.fewer;
         its_steps = did.steps ∙ can.its_steps;
@@ -67,7 +68,7 @@ pub answered-end : {M : Type 0} (manner : Manner) (program : List PredTree) (q :
     AnswersEnd manner program q given earlier new (first ++ writes)
 answered-end manner program q m n b c given earlier old new first writes did can turns = record {
   ticks = c.ticks;
-  ends = subst (λ s. EndsAt manner.lines manner.answers (given + 1) s program q c.ticks (first ++ writes)) can.its_steps (turns can.written can.runnable can.fewer);
+  ends = subst (λ s. EndsAt (asked_query manner.lines manner.answers s program q) (given + 1) c.ticks (first ++ writes)) can.its_steps (turns can.written can.runnable can.fewer);
   last = listed-last manner program q m b c given earlier old new first did can;
 }
 
@@ -76,7 +77,7 @@ pub answered-cut : {M : Type 0} (manner : Manner) (program : List PredTree) (q :
     AnswersCut manner program q given earlier new (status_of_stop stop) (first ++ writes)
 answered-cut manner program q m n b c given stop earlier old new first writes did can turns = record {
   ticks = c.ticks;
-  cut = subst (λ s. IsCutAt manner.lines manner.answers (given + 1) s program q c.ticks (status_of_stop stop) (first ++ writes)) can.its_steps (turns can.written can.runnable can.fewer);
+  cut = subst (λ s. IsCutAt (asked_query manner.lines manner.answers s program q) (given + 1) c.ticks (status_of_stop stop) (first ++ writes)) can.its_steps (turns can.written can.runnable can.fewer);
   last = listed-last manner program q m b c given earlier old new first did can;
 }
 

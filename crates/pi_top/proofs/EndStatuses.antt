@@ -26,11 +26,12 @@ use Rattle.pi_top.specs.Statuses.{ComesText, ComesPrinted, ComesOf, ComesFile, C
 use Rattle.pi_top.specs.Statuses as whole
 use Rattle.pi_top_words.specs.Words.{options}
 use Rattle.pi_outside.specs.declared.failed.Failed.{Failed}
+use Rattle.pi_top.specs.Told.{files_read, lists, sink_written}
 
 -- what was answered, and then its status: the sink's count between both is that behind the first
 pub status-given : (words : List (List ℕ)) (held : Option Holding) (files : FaultCount) (queries : List QueryRun) (r : Result ℕ Stop) (status sink0 sink1 sink2 : ℕ)
-    (reads : List FileRead) (first second : List SinkWrite) → TellsWrites sink0 sink1 r → AnswersBy (options words) held files queries [] r reads first →
-    GivesStatus r status (counted sink1 sink2) second → Ends words held queries [] status files (counted sink0 sink2) reads (first ++ second)
+    (reads : List FileRead) (first second : List SinkWrite) → TellsWrites sink0 sink1 r → AnswersBy (options words) (files_read held files reads) (lists queries []) r first →
+    GivesStatus r status (counted sink1 sink2) second → Ends words (files_read held files reads) (lists queries []) status (sink_written (counted sink0 sink2) (first ++ second))
 status-given words held files queries (Ok given) status sink0 sink1 sink2 reads first second tells ends gives =
     all_written (gives.1 ∙ tells.no_fault) (rw (gives.0, gives.2, append-nil first) ends)
 status-given words held files queries (Err Write) status sink0 sink1 sink2 reads first second tells ends gives =
@@ -67,7 +68,7 @@ query-status No = omega arith
 query-status (Exception ball) = omega arith
 query-status StepsSpent = omega arith
 
-text-status : (manner : Manner) (text goal : List ℕ) (queries : List QueryRun) (log : List LogEntry) (status : ℕ) (texts : List (List ℕ)) → ComesText manner text goal queries log status texts → status < 7
+text-status : (manner : Manner) (text goal : List ℕ) (queries : List QueryRun) (log : List LogEntry) (status : ℕ) (texts : List (List ℕ)) → ComesText manner text goal (lists queries log) status texts → status < 7
 text-status manner text goal queries log status texts (whole.refused line is written) = omega (arith, written.is_its)
 text-status manner text goal queries log status texts (whole.ran program of_program asks has) =
     let less = query-status has.headline.ending in omega (arith, less, has.headline.its_status)
@@ -77,7 +78,7 @@ printed-status text queries status texts (whole.faulty fault is written) = omega
 printed-status text queries status texts (whole.printed program is written) = omega (arith, written.is_its)
 
 of-status : (mode : RunMode) (asked : Options) (text : List ℕ) (queries : List QueryRun) (log : List LogEntry) (status : ℕ) (texts : List (List ℕ)) →
-    ComesOf mode asked text queries log status texts → status < 7
+    ComesOf mode asked text (lists queries log) status texts → status < 7
 of-status Query asked text queries log status texts comes = text-status (manner_of asked) text (goal_of asked) queries log status texts comes
 of-status Run asked text queries log status texts comes = text-status (manner_of asked) text (goal_of asked) queries log status texts comes
 of-status Session asked text queries log status texts comes = text-status (manner_of asked) text (goal_of asked) queries log status texts comes
@@ -91,7 +92,7 @@ record ReadsTell (files : FaultCount) (status : ℕ) : Type 0 where
   pub well : status ≢ 7 → Stands files
 
 file-reads : (asked : Options) (held : Option Holding) (files : FaultCount) (reads : List FileRead) (queries : List QueryRun) (log : List LogEntry) (status : ℕ) (texts : List (List ℕ)) →
-    ComesFile asked held files reads queries log status texts → ReadsTell files status
+    ComesFile asked (files_read held files reads) (lists queries log) status texts → ReadsTell files status
 file-reads asked held files reads queries log status texts (whole.read_fault rose fails line) =
     record { below = omega (arith, line.is_its); failed = λ seven. rose; well = λ other. absurd (other line.is_its) }
 file-reads asked held files reads queries log status texts (whole.was_read stands text all_read read comes) =
@@ -107,13 +108,13 @@ line-reads line its files reads queries status texts less is = record {
 }
 
 made-reads : (asked : Options) (files : FaultCount) (reads : List FileRead) (queries : List QueryRun) (log : List LogEntry) (status : ℕ) (texts : List (List ℕ)) →
-    ComesMade asked files reads queries log status texts → ReadsTell files status
+    ComesMade asked files reads (lists queries log) status texts → ReadsTell files status
 made-reads asked files reads queries log status texts is =
     let less = text-status (manner_of asked) (demo_program is.places) (goal_of asked) queries log status texts is.comes in
     record { below = omega (arith, less); failed = λ seven. absurd (omega (arith, less, seven)); well = λ other. is.unread.stands }
 
 in-reads : (mode : RunMode) (asked : Options) (held : Option Holding) (files : FaultCount) (reads : List FileRead) (queries : List QueryRun) (log : List LogEntry) (status : ℕ) (texts : List (List ℕ)) →
-    ComesIn mode asked held files reads queries log status texts → ReadsTell files status
+    ComesIn mode asked (files_read held files reads) (lists queries log) status texts → ReadsTell files status
 in-reads Query asked held files reads queries log status texts comes = file-reads asked held files reads queries log status texts comes
 in-reads Run asked held files reads queries log status texts comes = file-reads asked held files reads queries log status texts comes
 in-reads Session asked held files reads queries log status texts comes = absurd comes
@@ -121,13 +122,13 @@ in-reads Print asked held files reads queries log status texts comes = file-read
 in-reads Demo asked held files reads queries log status texts comes = made-reads asked files reads queries log status texts comes
 
 by-reads : (o : Option Options) (held : Option Holding) (files : FaultCount) (reads : List FileRead) (queries : List QueryRun) (log : List LogEntry) (status : ℕ) (texts : List (List ℕ)) →
-    ComesBy o held files reads queries log status texts → ReadsTell files status
+    ComesBy o (files_read held files reads) (lists queries log) status texts → ReadsTell files status
 by-reads None held files reads queries log status texts line = line-reads whole.usage_line 2 files reads queries status texts (omega arith) line
 by-reads (Some asked) held files reads queries log status texts comes = in-reads asked.mode asked held files reads queries log status texts comes
 
 -- where memory was wanted no read failed
 cut-reads : (asked : Options) (held : Option Holding) (files : FaultCount) (reads : List FileRead) (queries : List QueryRun) (log : List LogEntry) (status : ℕ) (writes : List SinkWrite) → status ≢ 8 →
-    CutFile asked held files reads queries log status writes → Stands files
+    CutFile asked (files_read held files reads) (lists queries log) status writes → Stands files
 cut-reads asked held files reads queries log status writes other (cut.nothing stands some_read is) = stands
 cut-reads asked held files reads queries log status writes other (cut.read_fault rose fails is) = absurd (other is.write)
 cut-reads asked held files reads queries log status writes other (cut.was_read stands text all_read read is) = stands
@@ -137,12 +138,12 @@ cut-line-reads line files reads queries status writes (CutLine.nothing unread is
 cut-line-reads line files reads queries status writes (cut.front_of unread is) = unread.stands
 
 cut-made-reads : (asked : Options) (files : FaultCount) (reads : List FileRead) (queries : List QueryRun) (log : List LogEntry) (status : ℕ) (writes : List SinkWrite) →
-    CutMade asked files reads queries log status writes → Stands files
+    CutMade asked files reads (lists queries log) status writes → Stands files
 cut-made-reads asked files reads queries log status writes (CutMade.nothing unread is) = unread.stands
 cut-made-reads asked files reads queries log status writes (CutMade.was_made unread places number is) = unread.stands
 
 cut-in-reads : (mode : RunMode) (asked : Options) (held : Option Holding) (files : FaultCount) (reads : List FileRead) (queries : List QueryRun) (log : List LogEntry) (status : ℕ) (writes : List SinkWrite) → status ≢ 8 →
-    CutIn mode asked held files reads queries log status writes → Stands files
+    CutIn mode asked (files_read held files reads) (lists queries log) status writes → Stands files
 cut-in-reads Query asked held files reads queries log status writes other is = cut-reads asked held files reads queries log status writes other is
 cut-in-reads Run asked held files reads queries log status writes other is = cut-reads asked held files reads queries log status writes other is
 cut-in-reads Session asked held files reads queries log status writes other is = absurd is
@@ -150,7 +151,7 @@ cut-in-reads Print asked held files reads queries log status writes other is = c
 cut-in-reads Demo asked held files reads queries log status writes other is = cut-made-reads asked files reads queries log status writes is
 
 cut-by-reads : (o : Option Options) (held : Option Holding) (files : FaultCount) (reads : List FileRead) (queries : List QueryRun) (log : List LogEntry) (status : ℕ) (writes : List SinkWrite) → status ≢ 8 →
-    CutBy o held files reads queries log status writes → Stands files
+    CutBy o (files_read held files reads) (lists queries log) status writes → Stands files
 cut-by-reads None held files reads queries log status writes other is = cut-line-reads whole.usage_line files reads queries status writes is
 cut-by-reads (Some asked) held files reads queries log status writes other is = cut-in-reads asked.mode asked held files reads queries log status writes other is
 
@@ -163,7 +164,7 @@ pub record CountsTell (status : ℕ) (files sink : FaultCount) : Type 0 where
   pub writes_well : status ≢ 8 → status ≢ 9 → Stands sink
 
 pub counts-tell : (words : List (List ℕ)) (held : Option Holding) (queries : List QueryRun) (log : List LogEntry) (status : ℕ) (files sink : FaultCount) (reads : List FileRead) (writes : List SinkWrite) →
-    Ends words held queries log status files sink reads writes → CountsTell status files sink
+    Ends words (files_read held files reads) (lists queries log) status (sink_written sink writes) → CountsTell status files sink
 counts-tell words held queries log status files sink reads writes (all_written stands written) =
     let told = by-reads (options words) held files reads queries log status written.texts written.comes in
     record {

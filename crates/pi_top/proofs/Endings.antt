@@ -38,6 +38,8 @@ use Rattle.pi_top_words.specs.Words.{options, places_of}
 use Rattle.pi_top.specs.Writing.{Writes}
 use Rattle.pi_top.proofs.OverNames.{ends-over-names, cut-over-names}
 use Rattle.pi_top.proofs.SoleLines.{line-all, line-front, is-nothing}
+use Rattle.pi_top.specs.Told.{files_read, lists}
+use Rattle.pi_top.specs.QueryWords.{asked_in}
 
 -- what is written of a greater thing
 widens : {P Q : List (List ℕ) → Type 0} (writes : List SinkWrite) → ((texts : List (List ℕ)) → P texts → Q texts) → Written P writes → Written Q writes
@@ -46,24 +48,24 @@ widens writes f w = record { texts = w.texts; comes = f w.texts w.comes; handed 
 -- ---- with two texts
 
 pub text-refused : (manner : Manner) (text goal line : List ℕ) (queries : List QueryRun) (r : Result ℕ Stop) (writes : List SinkWrite) → Refused text goal line → queries ≡ [] →
-    IfOk r (λ given. given ≡ 3) → IfErr r (λ stop. stop ≡ Write) → Writes (line ∷ []) r writes → AnswersText manner text goal queries [] r writes
+    IfOk r (λ given. given ≡ 3) → IfErr r (λ stop. stop ≡ Write) → Writes (line ∷ []) r writes → AnswersText manner text goal (lists queries []) r writes
 text-refused manner text goal line queries (Ok status) writes is none three stops written =
     widens writes (λ texts comes. whole.refused line is comes) (line-all line 3 status queries writes none three written.all)
 text-refused manner text goal line queries (Err stop) writes is none three stops written =
     cut.refused line is (line-front line stop queries writes none stops written.cut)
 
 -- nothing was written yet
-pub text-nothing : (manner : Manner) (text goal : List ℕ) (queries : List QueryRun) → queries ≡ [] → CutText manner text goal queries [] 9 []
+pub text-nothing : (manner : Manner) (text goal : List ℕ) (queries : List QueryRun) → queries ≡ [] → CutText manner text goal (lists queries []) 9 []
 text-nothing manner text goal queries none = cut.nothing (is-nothing queries none)
 
 -- a goal was run
 has-ran : (manner : Manner) (ticks : ℕ) (is : ProgramTree) (goal : ExpTree) (queries : List QueryRun) (status : ℕ) (writes : List SinkWrite) → queries ≡ run_of ticks ∷ [] →
-    Written (Headline manner is goal [] ticks status) writes → Written (HasRan manner is goal [] queries status) writes
+    Written (Headline manner is goal [] ticks status) writes → Written (HasRan manner is goal (lists queries []) status) writes
 has-ran manner ticks is goal queries status writes listed w =
     widens writes (λ texts headline. record { ticks = ticks; listed = listed; headline = headline }) w
 
 pub text-ran : (manner : Manner) (text goal : List ℕ) (program : List PredTree) (q : QueryTree) (old new : List QueryRun) (r : Result ℕ Stop) (writes : List SinkWrite) →
-    old ≡ [] → IsAsked text goal program q → HasRun manner.lines manner.answers manner.steps program q old new r writes → AnswersText manner text goal new [] r writes
+    old ≡ [] → IsAsked text goal program q → HasRun (asked_in manner program q) old new r writes → AnswersText manner text goal (lists new []) r writes
 text-ran manner text goal program q old new (Ok status) writes none is (not_asked memory listed nothing) = absurd (cc)
 text-ran manner text goal program q old new (Ok status) writes none is (was_asked has) =
     widens writes (λ texts comes. ran is.source is.asked is.asks comes)
@@ -101,7 +103,7 @@ printed-whole text shown queries (Err stop) writes is none zero stops written =
 -- ---- with a text, in a mode with a file
 
 text-of : (mode : RunMode) (asked : Options) (text : List ℕ) (queries : List QueryRun) (r : Result ℕ Stop) (writes : List SinkWrite) → (mode ≡ Print → ⊥) →
-    AnswersText (manner_of asked) text (goal_of asked) queries [] r writes → AnswersOf mode asked text queries [] r writes
+    AnswersText (manner_of asked) text (goal_of asked) (lists queries []) r writes → AnswersOf mode asked text (lists queries []) r writes
 text-of Query asked text queries (Ok status) writes other is = is
 text-of Query asked text queries (Err stop) writes other is = is
 text-of Run asked text queries (Ok status) writes other is = is
@@ -113,11 +115,11 @@ text-of Demo asked text queries (Err stop) writes other is = is
 text-of Print asked text queries r writes other is = absurd (other refl)
 
 pub of-text : (asked : Options) (text : List ℕ) (queries : List QueryRun) (r : Result ℕ Stop) (writes : List SinkWrite) → (asked.mode ≡ Print → ⊥) →
-    AnswersText (manner_of asked) text (goal_of asked) queries [] r writes → AnswersOf asked.mode asked text queries [] r writes
+    AnswersText (manner_of asked) text (goal_of asked) (lists queries []) r writes → AnswersOf asked.mode asked text (lists queries []) r writes
 of-text asked text queries r writes other is = text-of asked.mode asked text queries r writes other is
 
 pub of-printed : (asked : Options) (text : List ℕ) (queries : List QueryRun) (r : Result ℕ Stop) (writes : List SinkWrite) → asked.mode ≡ Print → AnswersPrinted text queries r writes →
-    AnswersOf asked.mode asked text queries [] r writes
+    AnswersOf asked.mode asked text (lists queries []) r writes
 of-printed asked text queries (Ok status) writes in_mode is = rw in_mode is
 of-printed asked text queries (Err stop) writes in_mode is = rw in_mode is
 
@@ -125,19 +127,19 @@ of-printed asked text queries (Err stop) writes in_mode is = rw in_mode is
 
 pub file-fault : (asked : Options) (held : Option Holding) (files : FaultCount) (queries : List QueryRun) (r : Result ℕ Stop) (reads : List FileRead) (writes : List SinkWrite) → Rises files →
     FailsReading asked.file reads → queries ≡ [] → IfOk r (λ given. given ≡ 7) → IfErr r (λ stop. stop ≡ Write) → Writes (read_fault_line ∷ []) r writes →
-    AnswersFile asked held files queries [] r reads writes
+    AnswersFile asked (files_read held files reads) (lists queries []) r writes
 file-fault asked held files queries (Ok status) reads writes rose fails none is stops written =
     widens writes (λ texts comes. whole.read_fault rose fails comes) (line-all read_fault_line 7 status queries writes none is written.all)
 file-fault asked held files queries (Err stop) reads writes rose fails none is stops written =
     cut.read_fault rose fails (line-front read_fault_line stop queries writes none stops written.cut)
 
 pub file-nothing : (asked : Options) (held : Option Holding) (files : FaultCount) (queries : List QueryRun) (reads : List FileRead) → Stands files → StopsReading asked.file reads → queries ≡ [] →
-    CutFile asked held files reads queries [] 9 []
+    CutFile asked (files_read held files reads) (lists queries []) 9 []
 file-nothing asked held files queries reads stands some_read none = cut.nothing stands some_read (is-nothing queries none)
 
 pub file-read : (asked : Options) (held : Option Holding) (files : FaultCount) (text : List ℕ) (queries : List QueryRun) (r : Result ℕ Stop) (reads : List FileRead) (writes : List SinkWrite) →
-    Stands files → ReadsText asked.file text reads → IsRead held asked.file text → AnswersOf asked.mode asked text queries [] r writes →
-    AnswersFile asked held files queries [] r reads writes
+    Stands files → ReadsText asked.file text reads → IsRead held asked.file text → AnswersOf asked.mode asked text (lists queries []) r writes →
+    AnswersFile asked (files_read held files reads) (lists queries []) r writes
 file-read asked held files text queries (Ok status) reads writes stands all_read read ends =
     widens writes (λ texts comes. whole.was_read stands text all_read read comes) ends
 file-read asked held files text queries (Err stop) reads writes stands all_read read ends = cut.was_read stands text all_read read ends
@@ -148,12 +150,12 @@ file-read asked held files text queries (Err stop) reads writes stands all_read 
 no-read : (files : FaultCount) → Stands files → IsUnread files []
 no-read files stands = record { stands = stands; no_read = refl }
 
-pub made-nothing : (asked : Options) (files : FaultCount) (queries : List QueryRun) → Stands files → queries ≡ [] → CutMade asked files [] queries [] 9 []
+pub made-nothing : (asked : Options) (files : FaultCount) (queries : List QueryRun) → Stands files → queries ≡ [] → CutMade asked files [] (lists queries []) 9 []
 made-nothing asked files queries stands none = CutMade.nothing (no-read files stands) (is-nothing queries none)
 
 pub made-text : (asked : Options) (files : FaultCount) (places : ℕ) (text : List ℕ) (queries : List QueryRun) (r : Result ℕ Stop) (writes : List SinkWrite) →
-    Stands files → places_of asked ≡ Some places → text ≡ demo_program places → AnswersText (manner_of asked) text (goal_of asked) queries [] r writes →
-    AnswersMade asked files queries [] r [] writes
+    Stands files → places_of asked ≡ Some places → text ≡ demo_program places → AnswersText (manner_of asked) text (goal_of asked) (lists queries []) r writes →
+    AnswersMade asked files [] (lists queries []) r writes
 made-text asked files places text queries (Ok status) writes stands number made ends =
     widens writes (λ texts comes. record { unread = no-read files stands; places = places; number = number; comes = comes }) (rw made at ends)
 made-text asked files places text queries (Err stop) writes stands number made ends = CutMade.was_made (no-read files stands) places number (rw made at ends)
@@ -168,31 +170,31 @@ asks_of_file Print = true
 asks_of_file other = false
 
 file-in : (mode : RunMode) (asked : Options) (held : Option Holding) (files : FaultCount) (queries : List QueryRun) (r : Result ℕ Stop) (reads : List FileRead) (writes : List SinkWrite) →
-    asked.mode ≡ mode → asks_of_file mode ≡ true → AnswersFile asked held files queries [] r reads writes → AnswersBy (Some asked) held files queries [] r reads writes
-file-in Query asked held files queries (Ok status) reads writes is reads_one ends = subst (λ m. Written (λ texts. ComesIn m asked held files reads queries [] status texts) writes) (sym is) ends
-file-in Query asked held files queries (Err stop) reads writes is reads_one ends = subst (λ m. CutIn m asked held files reads queries [] (status_of_stop stop) writes) (sym is) ends
-file-in Run asked held files queries (Ok status) reads writes is reads_one ends = subst (λ m. Written (λ texts. ComesIn m asked held files reads queries [] status texts) writes) (sym is) ends
-file-in Run asked held files queries (Err stop) reads writes is reads_one ends = subst (λ m. CutIn m asked held files reads queries [] (status_of_stop stop) writes) (sym is) ends
+    asked.mode ≡ mode → asks_of_file mode ≡ true → AnswersFile asked (files_read held files reads) (lists queries []) r writes → AnswersBy (Some asked) (files_read held files reads) (lists queries []) r writes
+file-in Query asked held files queries (Ok status) reads writes is reads_one ends = subst (λ m. Written (λ texts. ComesIn m asked (files_read held files reads) (lists queries []) status texts) writes) (sym is) ends
+file-in Query asked held files queries (Err stop) reads writes is reads_one ends = subst (λ m. CutIn m asked (files_read held files reads) (lists queries []) (status_of_stop stop) writes) (sym is) ends
+file-in Run asked held files queries (Ok status) reads writes is reads_one ends = subst (λ m. Written (λ texts. ComesIn m asked (files_read held files reads) (lists queries []) status texts) writes) (sym is) ends
+file-in Run asked held files queries (Err stop) reads writes is reads_one ends = subst (λ m. CutIn m asked (files_read held files reads) (lists queries []) (status_of_stop stop) writes) (sym is) ends
 file-in Session asked held files queries r reads writes is reads_one ends = absurd cc
-file-in Print asked held files queries (Ok status) reads writes is reads_one ends = subst (λ m. Written (λ texts. ComesIn m asked held files reads queries [] status texts) writes) (sym is) ends
-file-in Print asked held files queries (Err stop) reads writes is reads_one ends = subst (λ m. CutIn m asked held files reads queries [] (status_of_stop stop) writes) (sym is) ends
+file-in Print asked held files queries (Ok status) reads writes is reads_one ends = subst (λ m. Written (λ texts. ComesIn m asked (files_read held files reads) (lists queries []) status texts) writes) (sym is) ends
+file-in Print asked held files queries (Err stop) reads writes is reads_one ends = subst (λ m. CutIn m asked (files_read held files reads) (lists queries []) (status_of_stop stop) writes) (sym is) ends
 file-in Demo asked held files queries r reads writes is reads_one ends = absurd cc
 
 pub by-file : (words : List (List ℕ)) (asked : Options) (held : Option Holding) (files : FaultCount) (queries : List QueryRun) (r : Result ℕ Stop) (reads : List FileRead) (writes : List SinkWrite) →
-    options words ≡ Some asked → (mode : RunMode) → asked.mode ≡ mode → asks_of_file mode ≡ true → AnswersFile asked held files queries [] r reads writes →
-    AnswersBy (options words) held files queries [] r reads writes
+    options words ≡ Some asked → (mode : RunMode) → asked.mode ≡ mode → asks_of_file mode ≡ true → AnswersFile asked (files_read held files reads) (lists queries []) r writes →
+    AnswersBy (options words) (files_read held files reads) (lists queries []) r writes
 by-file words asked held files queries r reads writes is mode in_mode reads_one ends =
-    subst (λ o. AnswersBy o held files queries [] r reads writes) (sym is) (file-in mode asked held files queries r reads writes in_mode reads_one ends)
+    subst (λ o. AnswersBy o (files_read held files reads) (lists queries []) r writes) (sym is) (file-in mode asked held files queries r reads writes in_mode reads_one ends)
 
 demo-in : (asked : Options) (held : Option Holding) (files : FaultCount) (queries : List QueryRun) (r : Result ℕ Stop) (writes : List SinkWrite) →
-    asked.mode ≡ Demo → AnswersMade asked files queries [] r [] writes → AnswersBy (Some asked) held files queries [] r [] writes
-demo-in asked held files queries (Ok status) writes is ends = subst (λ m. Written (λ texts. ComesIn m asked held files [] queries [] status texts) writes) (sym is) ends
-demo-in asked held files queries (Err stop) writes is ends = subst (λ m. CutIn m asked held files [] queries [] (status_of_stop stop) writes) (sym is) ends
+    asked.mode ≡ Demo → AnswersMade asked files [] (lists queries []) r writes → AnswersBy (Some asked) (files_read held files []) (lists queries []) r writes
+demo-in asked held files queries (Ok status) writes is ends = subst (λ m. Written (λ texts. ComesIn m asked (files_read held files []) (lists queries []) status texts) writes) (sym is) ends
+demo-in asked held files queries (Err stop) writes is ends = subst (λ m. CutIn m asked (files_read held files []) (lists queries []) (status_of_stop stop) writes) (sym is) ends
 
 pub by-demo : (words : List (List ℕ)) (asked : Options) (held : Option Holding) (files : FaultCount) (queries : List QueryRun) (r : Result ℕ Stop) (writes : List SinkWrite) →
-    options words ≡ Some asked → asked.mode ≡ Demo → AnswersMade asked files queries [] r [] writes → AnswersBy (options words) held files queries [] r [] writes
+    options words ≡ Some asked → asked.mode ≡ Demo → AnswersMade asked files [] (lists queries []) r writes → AnswersBy (options words) (files_read held files []) (lists queries []) r writes
 by-demo words asked held files queries r writes is in_mode ends =
-    subst (λ o. AnswersBy o held files queries [] r [] writes) (sym is) (demo-in asked held files queries r writes in_mode ends)
+    subst (λ o. AnswersBy o (files_read held files []) (lists queries []) r writes) (sym is) (demo-in asked held files queries r writes in_mode ends)
 
 -- the words ask for what reads a file
 pub no-unread : (words : List (List ℕ)) (asked : Options) (mode : RunMode) → options words ≡ Some asked → asked.mode ≡ mode → reads_file mode ≡ true → ReadsNoFile (options words) → ⊥
@@ -207,19 +209,19 @@ line-unread line its status files queries writes stands none is handed =
     widens writes (λ texts comes. record { unread = no-read files stands; is = comes }) (line-all line its status queries writes none is handed)
 
 pub by-usage : (words : List (List ℕ)) (held : Option Holding) (files : FaultCount) (queries : List QueryRun) (r : Result ℕ Stop) (writes : List SinkWrite) → options words ≡ None →
-    Stands files → queries ≡ [] → IfOk r (λ given. given ≡ 2) → IfErr r (λ stop. stop ≡ Write) → Writes (usage_line ∷ []) r writes → AnswersBy (options words) held files queries [] r [] writes
+    Stands files → queries ≡ [] → IfOk r (λ given. given ≡ 2) → IfErr r (λ stop. stop ≡ Write) → Writes (usage_line ∷ []) r writes → AnswersBy (options words) (files_read held files []) (lists queries []) r writes
 by-usage words held files queries (Ok status) writes is stands none two stops written =
-    subst (λ o. AnswersBy o held files queries [] (Ok status) [] writes) (sym is) (line-unread usage_line 2 status files queries writes stands none two written.all)
+    subst (λ o. AnswersBy o (files_read held files []) (lists queries []) (Ok status) writes) (sym is) (line-unread usage_line 2 status files queries writes stands none two written.all)
 by-usage words held files queries (Err stop) writes is stands none two stops written =
-    subst (λ o. CutBy o held files [] queries [] (status_of_stop stop) writes) (sym is) (front_of (no-read files stands) (line-front usage_line stop queries writes none stops written.cut))
+    subst (λ o. CutBy o (files_read held files []) (lists queries []) (status_of_stop stop) writes) (sym is) (front_of (no-read files stands) (line-front usage_line stop queries writes none stops written.cut))
 
-nothing-in : (mode : RunMode) (asked : Options) (held : Option Holding) (files : FaultCount) (queries : List QueryRun) → is_session mode ≡ false → Stands files → queries ≡ [] → CutIn mode asked held files [] queries [] 9 []
+nothing-in : (mode : RunMode) (asked : Options) (held : Option Holding) (files : FaultCount) (queries : List QueryRun) → is_session mode ≡ false → Stands files → queries ≡ [] → CutIn mode asked (files_read held files []) (lists queries []) 9 []
 nothing-in Query asked held files queries no_session stands none = file-nothing asked held files queries [] stands (record { text = []; read = nothing_read }) none
 nothing-in Run asked held files queries no_session stands none = file-nothing asked held files queries [] stands (record { text = []; read = nothing_read }) none
 nothing-in Print asked held files queries no_session stands none = file-nothing asked held files queries [] stands (record { text = []; read = nothing_read }) none
 nothing-in Demo asked held files queries no_session stands none = made-nothing asked files queries stands none
 nothing-in Session asked held files queries no_session stands none = absurd cc
 
-pub by-nothing : (o : Option Options) (held : Option Holding) (files : FaultCount) (queries : List QueryRun) → AsksNoSession o → Stands files → queries ≡ [] → CutBy o held files [] queries [] 9 []
+pub by-nothing : (o : Option Options) (held : Option Holding) (files : FaultCount) (queries : List QueryRun) → AsksNoSession o → Stands files → queries ≡ [] → CutBy o (files_read held files []) (lists queries []) 9 []
 by-nothing None held files queries no_session stands none = CutLine.nothing (no-read files stands) (is-nothing queries none)
 by-nothing (Some asked) held files queries no_session stands none = nothing-in asked.mode asked held files queries no_session stands none

@@ -32,3 +32,4 @@ pub mod TurnRuns
 pub mod AskedOnce
 pub mod ServedInput
 pub mod SessionsOne
+pub mod Promises

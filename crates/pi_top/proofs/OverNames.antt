@@ -23,6 +23,7 @@ use Rattle.pi_top.specs.QueryEnd.{QueryEnd, Stopped, NoMore, No, Exception, Step
 use Rattle.pi_top.specs.Running.{print_solutions, IsQueryPart, QueryEnds, HowQueryIsCut, QueryIsCut}
 use Rattle.pi_top.specs.Handing.{Written}
 use Rattle.pi_top.specs.ToldLines.{where_told, end_lines}
+use Rattle.pi_top.specs.QueryWords.{asked_in}
 
 -- what the events of a query tell
 abbrev pub told : List NameSlot → List (Emitted Solution) → List (Emitted Told)
@@ -109,7 +110,7 @@ part-over-names program goal preds q steps run part is has = record {
 }
 
 pub ends-over-names : (manner : Manner) (program : ProgramTree) (goal : ExpTree) (preds : List PredTree) (q : QueryTree) (ticks status : ℕ) (writes : List SinkWrite) →
-    RunsTheSame program goal preds q → QueryEnds manner.lines manner.answers manner.steps preds q ticks status writes →
+    RunsTheSame program goal preds q → QueryEnds (asked_in manner preds q) ticks status writes →
     Written (Headline manner program goal [] ticks status) writes
 ends-over-names manner program goal preds q ticks status writes is has = record {
   texts = print_solutions manner.lines q.names has.part ++ end_lines manner.lines has.ending;
@@ -127,7 +128,7 @@ ends-over-names manner program goal preds q ticks status writes is has = record 
 }
 
 pub cut-over-names : (manner : Manner) (program : ProgramTree) (goal : ExpTree) (preds : List PredTree) (q : QueryTree) (ticks status : ℕ) (writes : List SinkWrite) →
-    RunsTheSame program goal preds q → QueryIsCut manner.lines manner.answers manner.steps preds q ticks status writes → IsCutOff manner program goal [] ticks status writes
+    RunsTheSame program goal preds q → QueryIsCut (asked_in manner preds q) ticks status writes → IsCutOff manner program goal [] ticks status writes
 cut-over-names manner program goal preds q ticks status writes is has = record {
   run = told_cut (solution_told q.names) has.run;
   part = told q.names has.part;

@@ -33,6 +33,7 @@ use Rattle.pi_top.proofs.EventLemmas.{behind-ticks, turn, ticks-turn, answers-tu
 use Rattle.pi_top.proofs.Fronts.{prefix-all}
 use Rattle.pi_top.proofs.HandedTexts.{hands-then, fails-then}
 use Rattle.pi_top.proofs.QueryRuns.{counted-ticks, earlier-part, HasPart, has-part, IsTail, tail-of}
+use Rattle.pi_top.specs.QueryWords.{asked_query, told_query}
 
 -- ---- what a query comes to behind so many answers, alike for each number of answers above these that is asked for
 
@@ -50,15 +51,15 @@ pub record EndsBehind (lines : Lines) (given steps : ℕ) (program : List PredTr
 -- by what is answered
 abbrev pub ComesBehind : Lines → ℕ → ℕ → List PredTree → QueryTree → ℕ → Result ℕ Stop → List SinkWrite → Type 0
 ComesBehind lines given steps program q ticks (Ok status) writes = EndsBehind lines given steps program q ticks status writes
-ComesBehind lines given steps program q ticks (Err stop) writes = IsCutBehind lines given steps program q ticks (status_of_stop stop) writes
+ComesBehind lines given steps program q ticks (Err stop) writes = IsCutBehind (told_query lines program q) given steps ticks (status_of_stop stop) writes
 
 -- with one such number
 pub cut-with : (lines : Lines) (answers given steps : ℕ) (program : List PredTree) (q : QueryTree) (ticks status : ℕ) (writes : List SinkWrite) → given < answers →
-    IsCutBehind lines given steps program q ticks status writes → QueryIsCut lines answers steps program q ticks status writes
+    IsCutBehind (told_query lines program q) given steps ticks status writes → QueryIsCut (asked_query lines answers steps program q) ticks status writes
 cut-with lines answers given steps program q ticks status writes less cut = record { run = cut.run; part = cut.part; is_part = cut.is_part; how = cut.how answers less }
 
 pub comes-with : (lines : Lines) (answers given steps : ℕ) (program : List PredTree) (q : QueryTree) (ticks : ℕ) (r : Result ℕ Stop) (writes : List SinkWrite) → given < answers →
-    ComesBehind lines given steps program q ticks r writes → ComesTo lines answers steps program q ticks r writes
+    ComesBehind lines given steps program q ticks r writes → ComesTo (asked_query lines answers steps program q) ticks r writes
 comes-with lines answers given steps program q ticks (Ok status) writes less is = record {
   run = is.run;
   part = is.part;
@@ -109,9 +110,9 @@ comes-line lines given steps program q events run ending ticks (Err Memory) firs
 
 -- the writing of an answer's lines is cut off
 pub comes-cut : {M : Type 0} (lines : Lines) (m n : MachineView M) (b c : Budget) (given steps : ℕ) (program : List PredTree) (q : QueryTree) (a : Answer) (stop : Stop) (first second : List SinkWrite) →
-    IsRunnable program q → (w : IsSoFar lines m b given program q first) → Called m n b c → c.steps ≡ steps →
+    IsRunnable program q → (w : IsSoFar (told_query lines program q) m b given first) → Called m n b c → c.steps ≡ steps →
     HappensByTicks (query_view []) program q w.events m n b c (Happening.Answer a) → IsCutIn (where_told lines (answer_lines a)) second stop →
-    IsCutBehind lines given steps program q c.ticks (status_of_stop stop) (first ++ second)
+    IsCutBehind (told_query lines program q) given steps c.ticks (status_of_stop stop) (first ++ second)
 comes-cut lines m n b c given steps program q a Write first second runnable w called same happens fails =
     let k : ℕ = counted m.mode b c in
     let x : Solution = happens.0 in
@@ -150,9 +151,9 @@ comes-cut lines m n b c given steps program q a Memory first second runnable w c
 
 -- the writing of a text is cut off
 pub text-cut : {M : Type 0} (lines : Lines) (m n : MachineView M) (b c : Budget) (given : ℕ) (program : List PredTree) (q : QueryTree) (text : List ℕ) (first second : List SinkWrite) →
-    IsRunnable program q → (w : IsSoFar lines m b given program q first) → Called m n b c →
+    IsRunnable program q → (w : IsSoFar (told_query lines program q) m b given first) → Called m n b c →
     HappensByTicks (query_view []) program q w.events m n b c (Happening.Out text) → FailsIn [] (text ∷ []) second →
-    IsCutBehind lines given c.steps program q c.ticks (status_of_stop Write) (first ++ second)
+    IsCutBehind (told_query lines program q) given c.steps c.ticks (status_of_stop Write) (first ++ second)
 text-cut lines m n b c given program q text first second runnable w called happens fails =
     let k : ℕ = counted m.mode b c in
     let earlier : List (Emitted Solution) = w.events ++ some_ticks k in
@@ -175,7 +176,7 @@ text-cut lines m n b c given program q text first second runnable w called happe
 
 -- memory is wanted behind all that was written
 pub memory-cut : {M : Type 0} (lines : Lines) (m : MachineView M) (b : Budget) (given : ℕ) (program : List PredTree) (q : QueryTree) (writes : List SinkWrite) →
-    IsRunnable program q → (w : IsSoFar lines m b given program q writes) → IsCutBehind lines given b.steps program q b.ticks (status_of_stop Memory) writes
+    IsRunnable program q → (w : IsSoFar (told_query lines program q) m b given writes) → IsCutBehind (told_query lines program q) given b.steps b.ticks (status_of_stop Memory) writes
 memory-cut lines m b given program q writes runnable w =
     let has : HasPart program q b.steps w.events = has-part m program q w.events b.steps runnable w.runs (omega (arith, w.ticks, w.within.ticks)) in
     record { run = has.run; part = w.events; is_part = has.is_part; how = λ asked less. at_memory refl w.ticks (omega (arith, w.answers, less)) w.written }
@@ -192,7 +193,7 @@ comes-nothing lines n events given steps program q ticks (Err Memory) first seco
 
 -- a machine's end, behind so many answers
 pub comes-end : {M : Type 0} (lines : Lines) (m n : MachineView M) (b c : Budget) (given steps : ℕ) (program : List PredTree) (q : QueryTree) (happening : Happening) (has : Bool)
-    (r : Result ℕ Stop) (first second : List SinkWrite) → IsRunnable program q → (w : IsSoFar lines m b given program q first) → Called m n b c → c.steps ≡ steps →
+    (r : Result ℕ Stop) (first second : List SinkWrite) → IsRunnable program q → (w : IsSoFar (told_query lines program q) m b given first) → Called m n b c → c.steps ≡ steps →
     (has ≡ true → 0 < given) → (has ≡ false → given ≡ 0) → ((a : Answer) → happening ≡ Happening.Answer a → ⊥) → ((text : List ℕ) → happening ≡ Happening.Out text → ⊥) →
     HappensByTicks (query_view []) program q w.events m n b c happening → WritesEnd lines happening has r second → ComesBehind lines given steps program q c.ticks r (first ++ second)
 comes-end lines m n b c given steps program q (Happening.Answer a) has r first second runnable w called same has_some has_none not_answer no_text happens writes = absurd (not_answer a refl)
@@ -237,7 +238,7 @@ comes-end lines m n b c given steps program q Happening.StepsSpent has r first s
 -- a part with its last answer, behind which the line was to be written
 stopped-line : (lines : Lines) (answers steps : ℕ) (program : List PredTree) (q : QueryTree) (events : List (Emitted Solution)) (run : Cut Solution) (ticks : ℕ) (r : Result ℕ Stop) (first second : List SinkWrite) →
     IsQueryPart program q steps run events → EndsWithLast answers events → IfErr r (λ stop. stop ≡ Write) → ticks ≡ count_ticks events → HandsAll (print_solutions lines q.names events) first →
-    WritesLine lines Stopped r second → ComesTo lines answers steps program q ticks r (first ++ second)
+    WritesLine lines Stopped r second → ComesTo (asked_query lines answers steps program q) ticks r (first ++ second)
 stopped-line lines answers steps program q events run ticks (Ok status) first second part last alone count handed line = record {
   run = run;
   part = events;
@@ -253,8 +254,8 @@ stopped-line lines answers steps program q events run ticks (Err Write) first se
 stopped-line lines answers steps program q events run ticks (Err Memory) first second part last alone count handed line = let write : Memory ≡ Write = alone in absurd (cc)
 
 pub comes-stopped : {M : Type 0} (lines : Lines) (m : MachineView M) (b : Budget) (answers steps : ℕ) (program : List PredTree) (q : QueryTree) (r : Result ℕ Stop) (first second : List SinkWrite) →
-    IsRunnable program q → 0 < answers → b.steps ≡ steps → IsWritten lines m b answers program q first → IfErr r (λ stop. stop ≡ Write) →
-    WritesLine lines Stopped r second → ComesTo lines answers steps program q b.ticks r (first ++ second)
+    IsRunnable program q → 0 < answers → b.steps ≡ steps → IsWritten (told_query lines program q) m b answers first → IfErr r (λ stop. stop ≡ Write) →
+    WritesLine lines Stopped r second → ComesTo (asked_query lines answers steps program q) b.ticks r (first ++ second)
 comes-stopped lines m b answers steps program q r first second runnable some same w alone line =
     let events : List (Emitted Solution) = w.so_far.events in
     let few : count_ticks events ≤ steps = omega (arith, w.so_far.ticks, w.so_far.within.ticks, same) in

@@ -29,6 +29,7 @@ use Rattle.pi_top.specs.Running.{print_solutions, IsQueryPart, IsAtStart, IsSoFa
 use Rattle.pi_top.specs.ToldLines.{where_told}
 use Rattle.pi_top.proofs.EventLemmas.{behind-ticks, ticks-behind, answers-behind, turn, print-turn, ticks-turn, answers-turn, last-turn, text-turn, print-text, ticks-text, answers-text}
 use Rattle.pi_top.proofs.HandedTexts.{hands-then}
+use Rattle.pi_top.specs.QueryWords.{asked_query, told_query}
 
 -- ---- a query's run
 
@@ -37,7 +38,7 @@ counted-ticks Mode.Top b c top more = omega (arith, more)
 counted-ticks (Mode.Inner rest) b c top more = absurd (cc)
 
 pub written-start : {M : Type 0} (lines : Lines) (m : MachineView M) (b : Budget) (answers : ℕ) (program : List PredTree) (q : QueryTree) →
-    IsAtStart m b answers program q → IsWritten lines m b 0 program q []
+    IsAtStart m b answers program q → IsWritten (told_query lines program q) m b 0 []
 unfolding count_answers count_ticks print_solutions
 written-start lines m b answers program q is = record {
   so_far = record {
@@ -55,8 +56,8 @@ written-start lines m b answers program q is = record {
 
 -- after an answer whose lines were written
 pub written-answer : {M : Type 0} (lines : Lines) (m n : MachineView M) (b c : Budget) (given : ℕ) (program : List PredTree) (q : QueryTree) (a : Answer) (first second : List SinkWrite) →
-    (w : IsSoFar lines m b given program q first) → Called m n b c → HappensByTicks (query_view []) program q w.events m n b c (Happening.Answer a) → GoesOn n →
-    HandsAll (where_told lines (answer_lines a)) second → IsWritten lines n c (given + 1) program q (first ++ second)
+    (w : IsSoFar (told_query lines program q) m b given first) → Called m n b c → HappensByTicks (query_view []) program q w.events m n b c (Happening.Answer a) → GoesOn n →
+    HandsAll (where_told lines (answer_lines a)) second → IsWritten (told_query lines program q) n c (given + 1) (first ++ second)
 written-answer lines m n b c given program q a first second w called happens running handed =
     let k : ℕ = counted m.mode b c in
     let x : Solution = happens.0 in
@@ -81,8 +82,8 @@ written-answer lines m n b c given program q a first second w called happens run
 
 -- after a text that was written
 pub written-text : {M : Type 0} (lines : Lines) (m n : MachineView M) (b c : Budget) (given : ℕ) (program : List PredTree) (q : QueryTree) (text : List ℕ) (first second : List SinkWrite) →
-    (w : IsSoFar lines m b given program q first) → Called m n b c → HappensByTicks (query_view []) program q w.events m n b c (Happening.Out text) → GoesOn n →
-    HandsAll (text ∷ []) second → IsSoFar lines n c given program q (first ++ second)
+    (w : IsSoFar (told_query lines program q) m b given first) → Called m n b c → HappensByTicks (query_view []) program q w.events m n b c (Happening.Out text) → GoesOn n →
+    HandsAll (text ∷ []) second → IsSoFar (told_query lines program q) n c given (first ++ second)
 written-text lines m n b c given program q text first second w called happens running handed =
     let k : ℕ = counted m.mode b c in
     let events : List (Emitted Solution) = w.events ++ text-turn k text in
@@ -139,7 +140,7 @@ pub record IsTail (lines : Lines) (events : List (Emitted Solution)) (k given to
   pub printed : print_solutions lines names (events ++ some_ticks k) ≡ print_solutions lines names events
 
 pub tail-of : {M : Type 0} (lines : Lines) (m n : MachineView M) (b c : Budget) (given : ℕ) (program : List PredTree) (q : QueryTree) (writes : List SinkWrite) →
-    (w : IsSoFar lines m b given program q writes) → Called m n b c → IsTail lines w.events (counted m.mode b c) given c.ticks q.names
+    (w : IsSoFar (told_query lines program q) m b given writes) → Called m n b c → IsTail lines w.events (counted m.mode b c) given c.ticks q.names
 tail-of lines m n b c given program q writes w called =
     let k : ℕ = counted m.mode b c in
     let more : b.ticks + k ≡ c.ticks = counted-ticks m.mode b c w.counts_ticks called.counts.ticks in
@@ -166,8 +167,8 @@ set-last runs listed new a b pushed set =
 
 -- a query that was asked is listed last
 pub has-run : (lines : Lines) (answers steps : ℕ) (program : List PredTree) (q : QueryTree) (old listed new : List QueryRun) (a run : QueryRun) (ticks : ℕ) (r : Result ℕ Stop) (writes : List SinkWrite) →
-    listed ≡ old ++ a ∷ [] → new ≡ slice_set listed (length listed - 1) run → run ≡ run_of ticks → ticks ≤ steps → ComesTo lines answers steps program q ticks r writes →
-    HasRun lines answers steps program q old new r writes
+    listed ≡ old ++ a ∷ [] → new ≡ slice_set listed (length listed - 1) run → run ≡ run_of ticks → ticks ≤ steps → ComesTo (asked_query lines answers steps program q) ticks r writes →
+    HasRun (asked_query lines answers steps program q) old new r writes
 has-run lines answers steps program q old listed new a run ticks r writes pushed set is within comes = was_asked (record {
   ticks = ticks;
   listed = set-last old listed new a run pushed set ∙ ap (λ (x : QueryRun). old ++ x ∷ []) is;

@@ -25,6 +25,7 @@ use Rattle.pi_top.specs.ToldLines.{end_lines}
 use Rattle.pi_top.proofs.EndingLemmas.{ending-is-one}
 use Rattle.pi_top.proofs.EventLemmas.{answers-append}
 use Rattle.pi_top.proofs.Judging.{AreOne, one-line, not-both, one-asked, one-program, one-program-line, program-no-line}
+use Rattle.pi_top.specs.Told.{lists}
 
 no-three : (ending : QueryEnd) → status_of ending ≢ 3
 no-three Stopped e = absurd (omega (arith, e))
@@ -34,13 +35,13 @@ no-three (Exception ball) e = absurd (omega (arith, e))
 no-three StepsSpent e = absurd (omega (arith, e))
 
 pub refused-written : (o : AreOne) (manner : Manner) (text goal line : List ℕ) (texts : List (List ℕ)) (queries : List QueryRun) (log : List LogEntry) (status : ℕ) → Refused text goal line →
-    ComesText manner text goal queries log status texts → IsLine line 3 status queries texts
+    ComesText manner text goal (lists queries log) status texts → IsLine line 3 status queries texts
 refused-written o manner text goal line texts queries log status is (refused other that written) =
     subst (λ (l : List ℕ). IsLine l 3 status queries texts) (one-line o text goal other line that is) written
 refused-written o manner text goal line texts queries log status is (ran program of_program asks has) = absurd (not-both o text goal line program of_program is asks)
 
 pub asked-run : (o : AreOne) (manner : Manner) (text goal : List ℕ) (texts : List (List ℕ)) (p : ProgramTree) (e : ExpTree) (queries : List QueryRun) (log : List LogEntry) (status : ℕ) →
-    Asks text goal p e → ComesText manner text goal queries log status texts → status ≢ 3
+    Asks text goal p e → ComesText manner text goal (lists queries log) status texts → status ≢ 3
 asked-run o manner text goal texts p e queries log status is (refused line that written) three = absurd (not-both o text goal line p e that is)
 asked-run o manner text goal texts p e queries log status is (ran program of_program asks has) three = no-three has.headline.ending (sym has.headline.its_status ∙ three)
 
@@ -147,7 +148,7 @@ pub record AreOneOutcome (queries runs : List QueryRun) (status other : ℕ) (te
   pub same_texts : texts ≡ more
 
 one-ran : (manner : Manner) (log : List LogEntry) (p q : ProgramTree) (e f : ExpTree) (queries runs : List QueryRun) (status other : ℕ) (texts more : List (List ℕ)) → q ≡ p → f ≡ e →
-    HasRan manner p e log queries status texts → HasRan manner q f log runs other more → AreOneOutcome queries runs status other texts more
+    HasRan manner p e (lists queries log) status texts → HasRan manner q f (lists runs log) other more → AreOneOutcome queries runs status other texts more
 one-ran manner log p q e f queries runs status other texts more program goal a b =
     let head : Headline manner p e log b.ticks other more = rw (program, goal) at b.headline in
     let same = one-headline manner p e log a.ticks b.ticks status other texts more a.headline head in
@@ -158,7 +159,7 @@ one-ran manner log p q e f queries runs status other texts more program goal a b
     }
 
 pub one-outcome : (o : AreOne) (manner : Manner) (text goal : List ℕ) (texts more : List (List ℕ)) (queries runs : List QueryRun) (log : List LogEntry) (status other : ℕ) →
-    ComesText manner text goal queries log status texts → ComesText manner text goal runs log other more → AreOneOutcome queries runs status other texts more
+    ComesText manner text goal (lists queries log) status texts → ComesText manner text goal (lists runs log) other more → AreOneOutcome queries runs status other texts more
 one-outcome o manner text goal texts more queries runs log status other (refused line is a) (refused lines are b) = record {
   same_queries = a.none_ran ∙ sym b.none_ran;
   same_status = a.is_its ∙ sym b.is_its;

@@ -19,6 +19,7 @@ use Rattle.pi_top.specs.ToldLines.{end_lines}
 use Rattle.pi_top.specs.Turn.{EndsAt, IsCutAt}
 use Rattle.pi_top.proofs.OverNames.{told, told-prints, told-ticks, told-last, told-ends, told-cut, part-over-names}
 use Rattle.pi_top.proofs.QueryRuns.{HasPart, has-part}
+use Rattle.pi_top.specs.QueryWords.{asked_in}
 
 pub so-far-over-names : {M : Type 0} (manner : Manner) (program : ProgramTree) (goal : ExpTree) (preds : List PredTree) (q : QueryTree) (m : MachineView M) (b : Budget) (given : ℕ) (writes : List SinkWrite) →
     RunsTheSame program goal preds q → CanAnswer manner preds q m b given writes → 0 < given → QuerySoFar manner program goal [] given b.ticks writes
@@ -37,7 +38,7 @@ so-far-over-names manner program goal preds q m b given writes is can some =
     }
 
 pub ended-over-names : (manner : Manner) (program : ProgramTree) (goal : ExpTree) (preds : List PredTree) (q : QueryTree) (requests ticks : ℕ) (writes : List SinkWrite) →
-    RunsTheSame program goal preds q → EndsAt manner.lines manner.answers requests manner.steps preds q ticks writes → QueryEnded manner program goal [] requests ticks writes
+    RunsTheSame program goal preds q → EndsAt (asked_in manner preds q) requests ticks writes → QueryEnded manner program goal [] requests ticks writes
 ended-over-names manner program goal preds q requests ticks writes is has = record {
   status = status_of has.ending;
   texts = print manner.lines (told q.names has.part) ++ end_lines manner.lines has.ending;
@@ -56,7 +57,7 @@ ended-over-names manner program goal preds q requests ticks writes is has = reco
 }
 
 pub cut-off-over-names : (manner : Manner) (program : ProgramTree) (goal : ExpTree) (preds : List PredTree) (q : QueryTree) (requests ticks status : ℕ) (writes : List SinkWrite) →
-    RunsTheSame program goal preds q → IsCutAt manner.lines manner.answers requests manner.steps preds q ticks status writes → QueryCutOff manner program goal [] requests ticks status writes
+    RunsTheSame program goal preds q → IsCutAt (asked_in manner preds q) requests ticks status writes → QueryCutOff manner program goal [] requests ticks status writes
 cut-off-over-names manner program goal preds q requests ticks status writes is has = record {
   run = told_cut (solution_told q.names) has.run;
   part = told q.names has.part;

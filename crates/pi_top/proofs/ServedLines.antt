@@ -19,6 +19,7 @@ use Rattle.pi_top.specs.AskingCode.{IsAskedOf}
 use Rattle.pi_top.specs.ServingCode.{Keeps, ServesTo}
 use Rattle.pi_top.proofs.HandedTexts.{fails-one}
 use Rattle.pi_top.proofs.ServedTurns.{serves-first, serves-more}
+use Rattle.pi_top.specs.QueryWords.{begun_query, listed_over, session_of}
 
 -- the write of a line fails
 pub line-cut : (manner : Manner) (program : ProgramTree) (present : Present) (asked : Asked) (line : List ℕ) (runs : List QueryRun) (writes : List SinkWrite) → ServesLine program present asked line → Fails line writes →
@@ -27,7 +28,7 @@ line-cut manner program present asked line runs writes is fails = CutServing.in_
 
 -- nothing is asked
 pub nothing-served : {S M : Type 0} (seen : S → StoreView M) (order : M → ℕ) (manner : Manner) (program : ProgramTree) (core : List PredTree) (present : Present) (asked : Asked) (run : Option (PresentRun S M)) (runs : List QueryRun) →
-    asked ≡ nothing → Keeps seen order manner program core run present runs → ServesTo seen order manner program core present asked (Ok run) runs runs []
+    asked ≡ nothing → Keeps (session_of seen order manner program core) run present runs → ServesTo (session_of seen order manner program core) present asked (Ok run) (listed_over runs runs) []
 nothing-served seen order manner program core present asked run runs is keeps = record {
   next = present;
   serves = subst (λ a. Serves manner program [] present a present runs runs []) (sym is) (Serves.passed_over present runs);
@@ -36,7 +37,7 @@ nothing-served seen order manner program core present asked run runs is keeps = 
 
 -- the next answer is asked for, and there is no query
 pub no-query-served : {S M : Type 0} (seen : S → StoreView M) (order : M → ℕ) (manner : Manner) (program : ProgramTree) (core : List PredTree) (present : Present) (runs : List QueryRun) (writes : List SinkWrite) →
-    Keeps seen order manner program core None present runs → Hands no_query_line writes → ServesTo seen order manner program core present another (Ok None) runs runs writes
+    Keeps (session_of seen order manner program core) None present runs → Hands no_query_line writes → ServesTo (session_of seen order manner program core) present another (Ok None) (listed_over runs runs) writes
 no-query-served seen order manner program core present runs writes none hands = record {
   next = no_query;
   serves = subst (λ p. Serves manner program [] p another no_query runs runs writes) (sym none) (Serves.has_no_query runs writes hands);
@@ -50,20 +51,20 @@ no-query-cut manner program present runs writes none fails =
 
 -- and there is one
 pub kept-answers : {S M : Type 0} (seen : S → StoreView M) (order : M → ℕ) (manner : Manner) (program : ProgramTree) (core : List PredTree) (run : PresentRun S M) (present : Present) (r : Result (Option (PresentRun S M)) Stop)
-    (old new : List QueryRun) (writes : List SinkWrite) → Keeps seen order manner program core (Some run) present old →
+    (old new : List QueryRun) (writes : List SinkWrite) → Keeps (session_of seen order manner program core) (Some run) present old →
     ((first : List SinkWrite) (q : QueryTree) (earlier : List QueryRun) (before : QueryRun) → old ≡ earlier ++ before ∷ [] → CanAnswer manner core q (machine_view seen order run.machine) run.budget run.given first →
-    AnswerComes seen order manner core q run.given earlier r new (first ++ writes)) →
-    ServesTo seen order manner program core present another r old new writes
+    AnswerComes (machine_view seen order) manner (begun_query core q run.given earlier) r new (first ++ writes)) →
+    ServesTo (session_of seen order manner program core) present another r (listed_over old new) writes
 kept-answers seen order manner program core run no_query r old new writes keeps comes = absurd keeps
 kept-answers seen order manner program core run (query goal requests first) r old new writes keeps comes =
     let answers = comes first keeps.q keeps.earlier (run_of run.budget.ticks) keeps.last.listed keeps.can in
-    subst (λ l. ServesTo seen order manner program core (query goal requests first) another r l new writes) (sym keeps.last.listed)
+    subst (λ l. ServesTo (session_of seen order manner program core) (query goal requests first) another r (listed_over l new) writes) (sym keeps.last.listed)
     (serves-more seen order manner program core keeps.q goal requests run.budget.ticks r keeps.earlier new first writes keeps.runs
-    (subst (λ n. AnswerComes seen order manner core keeps.q n keeps.earlier r new (first ++ writes)) keeps.so_many answers))
+    (subst (λ n. AnswerComes (machine_view seen order) manner (begun_query core keeps.q n keeps.earlier) r new (first ++ writes)) keeps.so_many answers))
 
 -- the line is too long
 pub too-long-served : {S M : Type 0} (seen : S → StoreView M) (order : M → ℕ) (manner : Manner) (program : ProgramTree) (core : List PredTree) (present : Present) (asked : Asked) (runs : List QueryRun) (writes : List SinkWrite) →
-    asked ≡ too_long → Hands line_too_long writes → ServesTo seen order manner program core present asked (Ok None) runs runs writes
+    asked ≡ too_long → Hands line_too_long writes → ServesTo (session_of seen order manner program core) present asked (Ok None) (listed_over runs runs) writes
 too-long-served seen order manner program core present asked runs writes is hands = record {
   next = no_query;
   serves = subst (λ a. Serves manner program [] present a no_query runs runs writes) (sym is) (Serves.is_too_long present runs writes hands);
@@ -77,7 +78,7 @@ too-long-cut manner program present asked runs writes is fails =
 
 -- a goal isn't asked
 pub refusal-served : {S M : Type 0} (seen : S → StoreView M) (order : M → ℕ) (manner : Manner) (program : ProgramTree) (core : List PredTree) (present : Present) (text line : List ℕ) (runs : List QueryRun) (writes : List SinkWrite) →
-    RefusesOf program text line → Hands line writes → ServesTo seen order manner program core present (a_goal text) (Ok None) runs runs writes
+    RefusesOf program text line → Hands line writes → ServesTo (session_of seen order manner program core) present (a_goal text) (Ok None) (listed_over runs runs) writes
 refusal-served seen order manner program core present text line runs writes is hands = record {
   next = no_query;
   serves = Serves.refused present text line runs writes is hands;
@@ -90,12 +91,12 @@ refusal-cut manner program present text line runs writes is fails = line-cut man
 
 -- and one is
 pub goal-served : {S M : Type 0} (seen : S → StoreView M) (order : M → ℕ) (manner : Manner) (program : ProgramTree) (core : List PredTree) (q : QueryTree) (present : Present) (text : List ℕ) (r : Result (Option (PresentRun S M)) Stop)
-    (old new : List QueryRun) (writes : List SinkWrite) → (is : IsAskedOf program core text q) → AnswerComes seen order manner core q 0 old r new writes →
-    ServesTo seen order manner program core present (a_goal text) r old new writes
+    (old new : List QueryRun) (writes : List SinkWrite) → (is : IsAskedOf program core text q) → AnswerComes (machine_view seen order) manner (begun_query core q 0 old) r new writes →
+    ServesTo (session_of seen order manner program core) present (a_goal text) r (listed_over old new) writes
 goal-served seen order manner program core q present text r old new writes is comes =
     serves-first seen order manner program core q present text is.goal r old new writes is.asks is.lowered.runs comes
 
 -- what a line asks was served
 pub asked-served : {S M : Type 0} (seen : S → StoreView M) (order : M → ℕ) (manner : Manner) (program : ProgramTree) (core : List PredTree) (present : Present) (asked it : Asked) (r : Result (Option (PresentRun S M)) Stop)
-    (old new : List QueryRun) (writes : List SinkWrite) → asked ≡ it → ServesTo seen order manner program core present it r old new writes → ServesTo seen order manner program core present asked r old new writes
-asked-served seen order manner program core present asked it r old new writes is serves = subst (λ a. ServesTo seen order manner program core present a r old new writes) (sym is) serves
+    (old new : List QueryRun) (writes : List SinkWrite) → asked ≡ it → ServesTo (session_of seen order manner program core) present it r (listed_over old new) writes → ServesTo (session_of seen order manner program core) present asked r (listed_over old new) writes
+asked-served seen order manner program core present asked it r old new writes is serves = subst (λ a. ServesTo (session_of seen order manner program core) present a r (listed_over old new) writes) (sym is) serves

@@ -19,6 +19,7 @@ use Rattle.pi_top.specs.Serving.{Present, no_query, query, QuerySoFar, QueryEnde
 use Rattle.pi_top.specs.PresentCode.{AnswersMore, AnswerComes}
 use Rattle.pi_top.specs.ServingCode.{ServesTo}
 use Rattle.pi_top.proofs.RequestNames.{so-far-over-names, ended-over-names, cut-off-over-names}
+use Rattle.pi_top.specs.QueryWords.{begun_query, listed_over, session_of}
 
 some-more : (n k : ℕ) → n ≡ k + 1 → 0 < n
 some-more n k is = omega (arith, is)
@@ -28,7 +29,7 @@ some-more n k is = omega (arith, is)
 first-more : {S M : Type 0} (seen : S → StoreView M) (order : M → ℕ) (manner : Manner) (program : ProgramTree) (core : List PredTree) (q : QueryTree) (present : Present) (text : List ℕ) (goal : ExpTree) (run : PresentRun S M)
     (runs new : List QueryRun) (writes : List SinkWrite) → AsksOf program text goal → RunsTheSame program goal core q →
     AnswersMore manner core q (machine_view seen order run.machine) run.budget 0 run.given runs new writes →
-    ServesTo seen order manner program core present (a_goal text) (Ok (Some run)) runs new writes
+    ServesTo (session_of seen order manner program core) present (a_goal text) (Ok (Some run)) (listed_over runs new) writes
 first-more seen order manner program core q present text goal run runs new writes asks same is =
     let m = machine_view seen order run.machine in
     let one : run.given ≡ 1 = omega (arith, is.one_more) in
@@ -43,7 +44,7 @@ first-more seen order manner program core q present text goal run runs new write
 
 pub serves-first : {S M : Type 0} (seen : S → StoreView M) (order : M → ℕ) (manner : Manner) (program : ProgramTree) (core : List PredTree) (q : QueryTree) (present : Present) (text : List ℕ) (goal : ExpTree)
     (r : Result (Option (PresentRun S M)) Stop) (runs new : List QueryRun) (writes : List SinkWrite) → AsksOf program text goal → RunsTheSame program goal core q →
-    AnswerComes seen order manner core q 0 runs r new writes → ServesTo seen order manner program core present (a_goal text) r runs new writes
+    AnswerComes (machine_view seen order) manner (begun_query core q 0 runs) r new writes → ServesTo (session_of seen order manner program core) present (a_goal text) r (listed_over runs new) writes
 serves-first seen order manner program core q present text goal (Ok (Some run)) runs new writes asks same is = first-more seen order manner program core q present text goal run runs new writes asks same is
 serves-first seen order manner program core q present text goal (Ok None) runs new writes asks same is = record {
   next = no_query;
@@ -60,7 +61,7 @@ serves-first seen order manner program core q present text goal (Err stop) runs 
 next-more : {S M : Type 0} (seen : S → StoreView M) (order : M → ℕ) (manner : Manner) (program : ProgramTree) (core : List PredTree) (q : QueryTree) (goal : ExpTree) (requests before : ℕ) (run : PresentRun S M)
     (runs new : List QueryRun) (first writes : List SinkWrite) → RunsTheSame program goal core q →
     AnswersMore manner core q (machine_view seen order run.machine) run.budget requests run.given runs new (first ++ writes) →
-    ServesTo seen order manner program core (query goal requests first) another (Ok (Some run)) (runs ++ run_of before ∷ []) new writes
+    ServesTo (session_of seen order manner program core) (query goal requests first) another (Ok (Some run)) (listed_over (runs ++ run_of before ∷ []) new) writes
 next-more seen order manner program core q goal requests before run runs new first writes same is =
     let m = machine_view seen order run.machine in
     let all : List SinkWrite = first ++ writes in
@@ -76,7 +77,7 @@ next-more seen order manner program core q goal requests before run runs new fir
 
 pub serves-more : {S M : Type 0} (seen : S → StoreView M) (order : M → ℕ) (manner : Manner) (program : ProgramTree) (core : List PredTree) (q : QueryTree) (goal : ExpTree) (requests before : ℕ)
     (r : Result (Option (PresentRun S M)) Stop) (runs new : List QueryRun) (first writes : List SinkWrite) → RunsTheSame program goal core q →
-    AnswerComes seen order manner core q requests runs r new (first ++ writes) → ServesTo seen order manner program core (query goal requests first) another r (runs ++ run_of before ∷ []) new writes
+    AnswerComes (machine_view seen order) manner (begun_query core q requests runs) r new (first ++ writes) → ServesTo (session_of seen order manner program core) (query goal requests first) another r (listed_over (runs ++ run_of before ∷ []) new) writes
 serves-more seen order manner program core q goal requests before (Ok (Some run)) runs new first writes same is = next-more seen order manner program core q goal requests before run runs new first writes same is
 serves-more seen order manner program core q goal requests before (Ok None) runs new first writes same is =
     let ended : QueryEnded manner program goal [] (suc requests) is.ticks (first ++ writes) =

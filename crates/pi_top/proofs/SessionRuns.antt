@@ -23,6 +23,8 @@ use Rattle.pi_top.specs.SessionCode.{AnswersSession, IsServedSoFar}
 use Rattle.pi_top.specs.SoleLine.{read_fault_line}
 use Rattle.pi_top.specs.Writing.{Writes}
 use Rattle.pi_outside.proofs.Kept.{kept-within}
+use Rattle.pi_top.specs.Told.{input_read, lists}
+use Rattle.pi_top.specs.QueryWords.{listed_over, session_of}
 
 -- the bytes of a line that are kept ask what it asks
 line-asks : (kept : List ℕ) (P : List ℕ → Type 0) (of : OfLine (most_in_line + 1) kept P) → request_of kept ≡ request_of of.line
@@ -41,7 +43,7 @@ served-first seen order manner program core most queries none = record {
 -- one line more
 pub served-more : {S M : Type 0} (seen : S → StoreView M) (order : M → ℕ) (manner : Manner) (program : ProgramTree) (core : List PredTree) (most : ℕ) (run next : Option (PresentRun S M)) (ahead after : Ahead)
     (queries new : List QueryRun) (reads its : List SourceRead) (writes its_writes : List SinkWrite) (kept : List ℕ) → (s : IsServedSoFar seen order manner program core most run ahead queries reads writes) →
-    OfLine (most_in_line + 1) kept (λ line. FindsLine ahead its line after) → ServesAll seen order manner program core s.present (request_of kept) next queries new its_writes →
+    OfLine (most_in_line + 1) kept (λ line. FindsLine ahead its line after) → ServesAll (session_of seen order manner program core) s.present (request_of kept) next (listed_over queries new) its_writes →
     IsServedSoFar seen order manner program core most next after new (reads ++ its) (writes ++ its_writes)
 served-more seen order manner program core most run next ahead after queries new reads its writes its_writes kept s of is =
     let serves : Serves manner program [] s.present (request_of of.line) is.next queries new its_writes =
@@ -73,7 +75,7 @@ up-to seen order manner program core most run ahead queries reads its writes its
 pub cut-at-line : {S M : Type 0} (seen : S → StoreView M) (order : M → ℕ) (manner : Manner) (program : ProgramTree) (core : List PredTree) (most : ℕ) (run : Option (PresentRun S M)) (ahead after : Ahead) (input : FaultCount)
     (queries new : List QueryRun) (reads its : List SourceRead) (writes its_writes : List SinkWrite) (kept : List ℕ) (status : ℕ) → (s : IsServedSoFar seen order manner program core most run ahead queries reads writes) →
     Stands input → OfLine (most_in_line + 1) kept (λ line. FindsLine ahead its line after) → CutServing manner program [] s.present (request_of kept) queries new status its_writes →
-    SessionCut manner program [] most input new status (reads ++ its) (writes ++ its_writes)
+    SessionCut manner program (input_read most input (reads ++ its)) (lists new []) status (writes ++ its_writes)
 cut-at-line seen order manner program core most run ahead after input queries new reads its writes its_writes kept status s stands of is =
     SessionCut.at_a_line stands its its_writes (up-to seen order manner program core most run ahead queries reads its writes its_writes s) of.line after of.holds
     (subst (λ a. CutServing manner program [] s.present a queries new status its_writes) (line-asks kept (λ line. FindsLine ahead its line after) of) is)
@@ -81,8 +83,8 @@ cut-at-line seen order manner program core most run ahead after input queries ne
 -- what stands behind the last line feed is served, or that is cut off
 pub session-ends : {S M : Type 0} (seen : S → StoreView M) (order : M → ℕ) (manner : Manner) (program : ProgramTree) (core : List PredTree) (most : ℕ) (run next : Option (PresentRun S M)) (ahead : Ahead) (input : FaultCount)
     (queries new : List QueryRun) (reads its : List SourceRead) (writes its_writes : List SinkWrite) (kept : List ℕ) → (s : IsServedSoFar seen order manner program core most run ahead queries reads writes) →
-    Stands input → OfLine (most_in_line + 1) kept (λ line. MeetsEnd ahead its line) → ServesAll seen order manner program core s.present (request_of kept) next queries new its_writes →
-    SessionComes manner program [] most input new 0 (reads ++ its) (writes ++ its_writes)
+    Stands input → OfLine (most_in_line + 1) kept (λ line. MeetsEnd ahead its line) → ServesAll (session_of seen order manner program core) s.present (request_of kept) next (listed_over queries new) its_writes →
+    SessionComes manner program (input_read most input (reads ++ its)) (lists new []) 0 (writes ++ its_writes)
 session-ends seen order manner program core most run next ahead input queries new reads its writes its_writes kept s stands of is =
     SessionComes.to_its_end refl stands its its_writes (up-to seen order manner program core most run ahead queries reads its writes its_writes s) of.line is.next of.holds
     (subst (λ a. Serves manner program [] s.present a is.next queries new its_writes) (line-asks kept (λ line. MeetsEnd ahead its line) of) is.serves)
@@ -90,7 +92,7 @@ session-ends seen order manner program core most run next ahead input queries ne
 pub cut-at-end : {S M : Type 0} (seen : S → StoreView M) (order : M → ℕ) (manner : Manner) (program : ProgramTree) (core : List PredTree) (most : ℕ) (run : Option (PresentRun S M)) (ahead : Ahead) (input : FaultCount)
     (queries new : List QueryRun) (reads its : List SourceRead) (writes its_writes : List SinkWrite) (kept : List ℕ) (status : ℕ) → (s : IsServedSoFar seen order manner program core most run ahead queries reads writes) →
     Stands input → OfLine (most_in_line + 1) kept (λ line. MeetsEnd ahead its line) → CutServing manner program [] s.present (request_of kept) queries new status its_writes →
-    SessionCut manner program [] most input new status (reads ++ its) (writes ++ its_writes)
+    SessionCut manner program (input_read most input (reads ++ its)) (lists new []) status (writes ++ its_writes)
 cut-at-end seen order manner program core most run ahead input queries new reads its writes its_writes kept status s stands of is =
     SessionCut.at_its_end stands its its_writes (up-to seen order manner program core most run ahead queries reads its writes its_writes s) of.line of.holds
     (subst (λ a. CutServing manner program [] s.present a queries new status its_writes) (line-asks kept (λ line. MeetsEnd ahead its line) of) is)
@@ -99,7 +101,7 @@ cut-at-end seen order manner program core most run ahead input queries new reads
 pub session-too-long : {S M : Type 0} (seen : S → StoreView M) (order : M → ℕ) (manner : Manner) (program : ProgramTree) (core : List PredTree) (most : ℕ) (run : Option (PresentRun S M)) (ahead : Ahead) (input : FaultCount)
     (queries : List QueryRun) (reads its : List SourceRead) (writes its_writes : List SinkWrite) (r : Result ℕ Stop) → IsServedSoFar seen order manner program core most run ahead queries reads writes → Stands input → PassesLimit ahead its →
     IfOk r (λ given. given ≡ 3) → IfErr r (λ stop. stop ≡ Write) → Writes (input_too_long_line ∷ []) r its_writes →
-    AnswersSession manner program most input queries r (reads ++ its) (writes ++ its_writes)
+    AnswersSession manner program (input_read most input (reads ++ its)) queries r (writes ++ its_writes)
 session-too-long seen order manner program core most run ahead input queries reads its writes its_writes (Ok status) s stands over three stops written =
     SessionComes.past_limit three stands its its_writes (up-to seen order manner program core most run ahead queries reads its writes its_writes s) over refl written.all
 session-too-long seen order manner program core most run ahead input queries reads its writes its_writes (Err Write) s stands over three stops written =
@@ -110,7 +112,7 @@ session-too-long seen order manner program core most run ahead input queries rea
 pub session-fault : {S M : Type 0} (seen : S → StoreView M) (order : M → ℕ) (manner : Manner) (program : ProgramTree) (core : List PredTree) (most : ℕ) (run : Option (PresentRun S M)) (ahead : Ahead) (input : FaultCount)
     (queries : List QueryRun) (reads its : List SourceRead) (writes its_writes : List SinkWrite) (r : Result ℕ Stop) → IsServedSoFar seen order manner program core most run ahead queries reads writes → Rises input → FailsReading ahead its →
     IfOk r (λ given. given ≡ 7) → IfErr r (λ stop. stop ≡ Write) → Writes (read_fault_line ∷ []) r its_writes →
-    AnswersSession manner program most input queries r (reads ++ its) (writes ++ its_writes)
+    AnswersSession manner program (input_read most input (reads ++ its)) queries r (writes ++ its_writes)
 session-fault seen order manner program core most run ahead input queries reads its writes its_writes (Ok status) s rises fails seven stops written =
     SessionComes.read_fault seven rises its its_writes (up-to seen order manner program core most run ahead queries reads its writes its_writes s) fails refl written.all
 session-fault seen order manner program core most run ahead input queries reads its writes its_writes (Err Write) s rises fails seven stops written =
@@ -120,7 +122,7 @@ session-fault seen order manner program core most run ahead input queries reads 
 -- memory is wanted while a line is read
 pub session-stops : {S M : Type 0} (seen : S → StoreView M) (order : M → ℕ) (manner : Manner) (program : ProgramTree) (core : List PredTree) (most : ℕ) (run : Option (PresentRun S M)) (ahead : Ahead) (input : FaultCount)
     (queries : List QueryRun) (reads its : List SourceRead) (writes : List SinkWrite) → IsServedSoFar seen order manner program core most run ahead queries reads writes → Stands input → StopsReading ahead its →
-    SessionCut manner program [] most input queries 9 (reads ++ its) writes
+    SessionCut manner program (input_read most input (reads ++ its)) (lists queries []) 9 writes
 session-stops seen order manner program core most run ahead input queries reads its writes s stands stops =
     let served : Served manner program [] most (reads ++ its) its writes [] = record {
       lines = s.lines;
@@ -141,6 +143,6 @@ stops-at-once ahead = record { at = ahead; on = none_read }
 
 pub session-stops-at-once : {S M : Type 0} (seen : S → StoreView M) (order : M → ℕ) (manner : Manner) (program : ProgramTree) (core : List PredTree) (most : ℕ) (run : Option (PresentRun S M)) (ahead : Ahead) (input : FaultCount)
     (queries : List QueryRun) (reads : List SourceRead) (writes : List SinkWrite) → IsServedSoFar seen order manner program core most run ahead queries reads writes → Stands input →
-    SessionCut manner program [] most input queries 9 reads writes
+    SessionCut manner program (input_read most input reads) (lists queries []) 9 writes
 session-stops-at-once seen order manner program core most run ahead input queries reads writes s stands =
-    subst (λ l. SessionCut manner program [] most input queries 9 l writes) (append-nil reads) (session-stops seen order manner program core most run ahead input queries reads [] writes s stands (stops-at-once ahead))
+    subst (λ l. SessionCut manner program (input_read most input l) (lists queries []) 9 writes) (append-nil reads) (session-stops seen order manner program core most run ahead input queries reads [] writes s stands (stops-at-once ahead))

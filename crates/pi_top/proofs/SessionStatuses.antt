@@ -21,11 +21,12 @@ use Rattle.pi_top.specs.SessionEnds.{SessionText, SessionFile, CutSessionText, C
 use Rattle.pi_top.specs.Ends.{is_session, AsksNoSession, AsksSession, GivesStatus}
 use Rattle.pi_top.specs.Completeness.{NothingFailsInSession}
 use Rattle.pi_top.proofs.EndStatuses.{CountsTell}
+use Rattle.pi_top.specs.Told.{files_read, input_read, lists, sink_written}
 
 -- what was answered, and then its status: the sink's count between both is that behind the first
 pub session-given : (asked : Options) (held : Option Holding) (most : ℕ) (files input : FaultCount) (queries : List QueryRun) (r : Result ℕ Stop) (status sink0 sink1 sink2 : ℕ)
-    (reads : List FileRead) (inputs : List SourceRead) (first second : List SinkWrite) → TellsWrites sink0 sink1 r → AnswersSessionFile asked held most files input queries [] r reads inputs first →
-    GivesStatus r status (counted sink1 sink2) second → SessionEnds asked held most queries [] status files input (counted sink0 sink2) reads inputs (first ++ second)
+    (reads : List FileRead) (inputs : List SourceRead) (first second : List SinkWrite) → TellsWrites sink0 sink1 r → AnswersSessionFile asked (files_read held files reads) (input_read most input inputs) (lists queries []) r first →
+    GivesStatus r status (counted sink1 sink2) second → SessionEnds asked (files_read held files reads) (input_read most input inputs) (lists queries []) status (sink_written (counted sink0 sink2) (first ++ second))
 session-given asked held most files input queries (Ok given) status sink0 sink1 sink2 reads inputs first second tells ends gives =
     SessionEnds.all_written (gives.1 ∙ tells.no_fault) (rw (gives.0, gives.2, append-nil first) ends)
 session-given asked held most files input queries (Err Write) status sink0 sink1 sink2 reads inputs first second tells ends gives =
@@ -48,7 +49,7 @@ record InputTells (input : FaultCount) (status : ℕ) : Type 0 where
   pub well : status ≢ 7 → Stands input
 
 comes-tell : (manner : Manner) (program : ProgramTree) (log : List LogEntry) (most : ℕ) (input : FaultCount) (queries : List QueryRun) (status : ℕ) (inputs : List SourceRead) (writes : List SinkWrite) →
-    SessionComes manner program log most input queries status inputs writes → InputTells input status
+    SessionComes manner program (input_read most input inputs) (lists queries log) status writes → InputTells input status
 comes-tell manner program log most input queries status inputs writes (SessionComes.to_its_end at_end stands its its_writes served line next meets serves) =
     record { below = omega (arith, at_end); failed = λ seven. absurd (omega (arith, at_end, seven)); well = λ other. stands }
 comes-tell manner program log most input queries status inputs writes (SessionComes.past_limit three stands its its_writes served passes same handed) =
@@ -57,7 +58,7 @@ comes-tell manner program log most input queries status inputs writes (SessionCo
     record { below = omega (arith, seven); failed = λ same_status. rises; well = λ other. absurd (other seven) }
 
 text-tells : (asked : Options) (text : List ℕ) (most : ℕ) (input : FaultCount) (queries : List QueryRun) (log : List LogEntry) (status : ℕ) (inputs : List SourceRead) (writes : List SinkWrite) →
-    SessionText asked text most input queries log status inputs writes → InputTells input status
+    SessionText asked text (input_read most input inputs) (lists queries log) status writes → InputTells input status
 text-tells asked text most input queries log status inputs writes (SessionText.refused untouched line is written) =
     let three : status ≡ 3 = written.comes.is_its in
     record { below = omega (arith, three); failed = λ seven. absurd (omega (arith, three, seven)); well = λ other. untouched.stands }
@@ -69,7 +70,7 @@ record FileTells (files input : FaultCount) (status : ℕ) : Type 0 where
   pub well : status ≢ 7 → Stands files × Stands input
 
 file-tells : (asked : Options) (held : Option Holding) (most : ℕ) (files input : FaultCount) (queries : List QueryRun) (log : List LogEntry) (status : ℕ) (reads : List FileRead) (inputs : List SourceRead) (writes : List SinkWrite) →
-    SessionFile asked held most files input queries log status reads inputs writes → FileTells files input status
+    SessionFile asked (files_read held files reads) (input_read most input inputs) (lists queries log) status writes → FileTells files input status
 file-tells asked held most files input queries log status reads inputs writes (SessionFile.read_fault rises fails untouched written) =
     let seven : status ≡ 7 = written.comes.is_its in
     record { below = omega (arith, seven); failed = λ same. inl rises; well = λ other. absurd (other seven) }
@@ -79,7 +80,7 @@ file-tells asked held most files input queries log status reads inputs writes (S
 
 -- where memory was wanted no read failed
 cut-stands : (manner : Manner) (program : ProgramTree) (log : List LogEntry) (most : ℕ) (input : FaultCount) (queries : List QueryRun) (status : ℕ) (inputs : List SourceRead) (writes : List SinkWrite) → status ≢ 8 →
-    SessionCut manner program log most input queries status inputs writes → Stands input
+    SessionCut manner program (input_read most input inputs) (lists queries log) status writes → Stands input
 cut-stands manner program log most input queries status inputs writes other (SessionCut.while_reading nine stands its served stops same) = stands
 cut-stands manner program log most input queries status inputs writes other (SessionCut.at_a_line stands its its_writes served line after finds is) = stands
 cut-stands manner program log most input queries status inputs writes other (SessionCut.at_its_end stands its its_writes served line meets is) = stands
@@ -87,13 +88,13 @@ cut-stands manner program log most input queries status inputs writes other (Ses
 cut-stands manner program log most input queries status inputs writes other (SessionCut.read_fault eight rises its its_writes served fails same is) = absurd (other eight)
 
 text-stands : (asked : Options) (text : List ℕ) (most : ℕ) (input : FaultCount) (queries : List QueryRun) (log : List LogEntry) (status : ℕ) (inputs : List SourceRead) (writes : List SinkWrite) → status ≢ 8 →
-    CutSessionText asked text most input queries log status inputs writes → Stands input
+    CutSessionText asked text (input_read most input inputs) (lists queries log) status writes → Stands input
 text-stands asked text most input queries log status inputs writes other (CutSessionText.nothing untouched is) = untouched.stands
 text-stands asked text most input queries log status inputs writes other (CutSessionText.refused untouched line is front) = untouched.stands
 text-stands asked text most input queries log status inputs writes other (CutSessionText.serving program ready cut) = cut-stands _ program log most input queries status inputs writes other cut
 
 file-stands : (asked : Options) (held : Option Holding) (most : ℕ) (files input : FaultCount) (queries : List QueryRun) (log : List LogEntry) (status : ℕ) (reads : List FileRead) (inputs : List SourceRead) (writes : List SinkWrite) →
-    status ≢ 8 → CutSessionFile asked held most files input queries log status reads inputs writes → Stands files × Stands input
+    status ≢ 8 → CutSessionFile asked (files_read held files reads) (input_read most input inputs) (lists queries log) status writes → Stands files × Stands input
 file-stands asked held most files input queries log status reads inputs writes other (CutSessionFile.nothing stands stops untouched is) = (stands, untouched.stands)
 file-stands asked held most files input queries log status reads inputs writes other (CutSessionFile.read_fault rises fails untouched front) = absurd (other front.write)
 file-stands asked held most files input queries log status reads inputs writes other (CutSessionFile.was_read text was cut) =
@@ -108,7 +109,7 @@ pub record AllTell (status : ℕ) (files input sink : FaultCount) : Type 0 where
   pub writes_well : status ≢ 8 → status ≢ 9 → Stands sink
 
 pub session-tells : (asked : Options) (held : Option Holding) (most : ℕ) (queries : List QueryRun) (log : List LogEntry) (status : ℕ) (files input sink : FaultCount) (reads : List FileRead) (inputs : List SourceRead) (writes : List SinkWrite) →
-    SessionEnds asked held most queries log status files input sink reads inputs writes → AllTell status files input sink
+    SessionEnds asked (files_read held files reads) (input_read most input inputs) (lists queries log) status (sink_written sink writes) → AllTell status files input sink
 session-tells asked held most queries log status files input sink reads inputs writes (SessionEnds.all_written stands is) =
     let told : FileTells files input status = file-tells asked held most files input queries log status reads inputs writes is in
     record {
@@ -184,34 +185,34 @@ is-asked words asked asks in_mode none =
 
 -- what this one answers is what those that are asked answer
 pub asks-this : (words : List (List ℕ)) (asked other : Options) (held : Option Holding) (most : ℕ) (files input : FaultCount) (queries : List QueryRun) (r : Result ℕ Stop) (reads : List FileRead) (inputs : List SourceRead) (writes : List SinkWrite) →
-    options words ≡ Some asked → AsksSession (options words) other → AnswersSessionFile asked held most files input queries [] r reads inputs writes → AnswersSessionFile other held most files input queries [] r reads inputs writes
+    options words ≡ Some asked → AsksSession (options words) other → AnswersSessionFile asked (files_read held files reads) (input_read most input inputs) (lists queries []) r writes → AnswersSessionFile other (files_read held files reads) (input_read most input inputs) (lists queries []) r writes
 asks-this words asked other held most files input queries r reads inputs writes asks is answers =
     let some : Some asked ≡ Some other = sym asks ∙ is.asks in
     let same : asked ≡ other = cc in
-    subst (λ (o : Options). AnswersSessionFile o held most files input queries [] r reads inputs writes) same answers
+    subst (λ (o : Options). AnswersSessionFile o (files_read held files reads) (input_read most input inputs) (lists queries []) r writes) same answers
 
 -- ---- where nothing fails
 
 comes-whole : (manner : Manner) (program : ProgramTree) (log : List LogEntry) (most : ℕ) (input : FaultCount) (queries : List QueryRun) (status : ℕ) (inputs : List SourceRead) (writes : List SinkWrite) → status ≢ 3 →
-    (Rises input → ⊥) → SessionComes manner program log most input queries status inputs writes → status ≡ 0
+    (Rises input → ⊥) → SessionComes manner program (input_read most input inputs) (lists queries log) status writes → status ≡ 0
 comes-whole manner program log most input queries status inputs writes no_three no_fault (SessionComes.to_its_end at_end stands its its_writes served line next meets serves) = at_end
 comes-whole manner program log most input queries status inputs writes no_three no_fault (SessionComes.past_limit three stands its its_writes served passes same handed) = absurd (no_three three)
 comes-whole manner program log most input queries status inputs writes no_three no_fault (SessionComes.read_fault seven rises its its_writes served fails same handed) = absurd (no_fault rises)
 
 text-whole : (asked : Options) (text : List ℕ) (most : ℕ) (input : FaultCount) (queries : List QueryRun) (log : List LogEntry) (status : ℕ) (inputs : List SourceRead) (writes : List SinkWrite) → status ≢ 3 →
-    (Rises input → ⊥) → SessionText asked text most input queries log status inputs writes → status ≡ 0
+    (Rises input → ⊥) → SessionText asked text (input_read most input inputs) (lists queries log) status writes → status ≡ 0
 text-whole asked text most input queries log status inputs writes no_three no_fault (SessionText.refused untouched line is written) = absurd (no_three written.comes.is_its)
 text-whole asked text most input queries log status inputs writes no_three no_fault (SessionText.served program ready comes) =
     comes-whole _ program log most input queries status inputs writes no_three no_fault comes
 
 file-whole : (asked : Options) (held : Option Holding) (most : ℕ) (files input : FaultCount) (queries : List QueryRun) (log : List LogEntry) (status : ℕ) (reads : List FileRead) (inputs : List SourceRead) (writes : List SinkWrite) →
-    status ≢ 3 → (Rises files → ⊥) → (Rises input → ⊥) → SessionFile asked held most files input queries log status reads inputs writes → status ≡ 0
+    status ≢ 3 → (Rises files → ⊥) → (Rises input → ⊥) → SessionFile asked (files_read held files reads) (input_read most input inputs) (lists queries log) status writes → status ≡ 0
 file-whole asked held most files input queries log status reads inputs writes no_three no_read no_fault (SessionFile.read_fault rises fails untouched written) = absurd (no_read rises)
 file-whole asked held most files input queries log status reads inputs writes no_three no_read no_fault (SessionFile.was_read text was comes) =
     text-whole asked text most input queries log status inputs writes no_three no_fault comes
 
 pub session-whole : (words : List (List ℕ)) (asked : Options) (held : Option Holding) (most : ℕ) (queries : List QueryRun) (log : List LogEntry) (status : ℕ) (files input sink : FaultCount) (reads : List FileRead) (inputs : List SourceRead) (writes : List SinkWrite) →
-    SessionEnds asked held most queries log status files input sink reads inputs writes → NothingFailsInSession words asked status files input sink → (status ≡ 0) ⊎ (status ≡ 9)
+    SessionEnds asked (files_read held files reads) (input_read most input inputs) (lists queries log) status (sink_written sink writes) → NothingFailsInSession words asked status files input sink → (status ≡ 0) ⊎ (status ≡ 9)
 session-whole words asked held most queries log status files input sink reads inputs writes (SessionEnds.all_written stands is) none =
     inl (file-whole asked held most files input queries log status reads inputs writes none.no_fault none.no_read_fails none.no_input_fails is)
 session-whole words asked held most queries log status files input sink reads inputs writes (SessionEnds.write_failed eight rose is) none = absurd (none.no_write_fails rose)

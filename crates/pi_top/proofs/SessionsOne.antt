@@ -37,6 +37,7 @@ use Rattle.pi_top.proofs.EndingLemmas.{ending-is-one}
 use Rattle.pi_top.proofs.Judging.{AreOne}
 use Rattle.pi_top.proofs.Refusing.{one-last, one-part, last-no-whole, stands}
 use Rattle.pi_top.proofs.ServedInput.{serves-its-lines}
+use Rattle.pi_top.specs.Told.{input_read, lists}
 
 -- ---- the bytes of texts that were handed over
 
@@ -281,9 +282,9 @@ by-one o manner program log (a_goal text) present other next after old new more 
 
 line-one : (o : AreOne) (manner : Manner) (program : ProgramTree) (log : List LogEntry) (asked its : Asked) (present other next after : Present) (old runs new more : List QueryRun) (writes others : List SinkWrite) → SamePresent present other →
     asked ≡ its → old ≡ runs → Serves manner program log present asked next old new writes → Serves manner program log other its after runs more others → SameServed next after new more writes others
-line-one o manner program log asked its present other next after old runs new more writes others same asks lists a b =
+line-one o manner program log asked its present other next after old runs new more writes others same asks same_runs a b =
     by-one o manner program log asked present other next after old new more writes others same (served-by manner program log present asked next old new writes a)
-    (served-by manner program log other asked after old more others (rw (← asks, ← lists) at b))
+    (served-by manner program log other asked after old more others (rw (← asks, ← same_runs) at b))
 
 -- ---- all lines that were found
 
@@ -354,8 +355,8 @@ first-lines manner program log most reads its writes its_writes served passes =
     (serves-its-lines manner program log most served.lines served.present served.runs served.ahead served.earlier served.earlier_writes served.so_far) passes)
 
 end-one : (o : AreOne) (manner : Manner) (program : ProgramTree) (log : List LogEntry) (most : ℕ) (input other : FaultCount) (queries runs : List QueryRun) (status its : ℕ) (reads more : List SourceRead) (writes others : List SinkWrite) →
-    (Rises input → ⊥) → (Rises other → ⊥) → take (suc most) (given_in reads) ≡ take (suc most) (given_in more) → SessionComes manner program log most input queries status reads writes →
-    SessionComes manner program log most other runs its more others → AreOneEnd status its queries runs writes others
+    (Rises input → ⊥) → (Rises other → ⊥) → take (suc most) (given_in reads) ≡ take (suc most) (given_in more) → SessionComes manner program (input_read most input reads) (lists queries log) status writes →
+    SessionComes manner program (input_read most other more) (lists runs log) its others → AreOneEnd status its queries runs writes others
 end-one o manner program log most input other queries runs status its reads more writes others stands stood same
     (SessionComes.to_its_end a b first first_writes served line next meets serves) (SessionComes.to_its_end c d second second_writes served' line' next' meets' serves') =
     let x = its-lines manner program log most reads first writes first_writes served line meets in

@@ -17,6 +17,7 @@ use Rattle.pi_top.specs.ToldLines.{where_told}
 use Rattle.pi_top.specs.Turn.{EndsAt, IsCutAt}
 use Rattle.pi_top.proofs.QueryRuns.{written-start, written-answer}
 use Rattle.pi_top.proofs.QueryEndings.{EndsBehind}
+use Rattle.pi_top.specs.QueryWords.{asked_query, told_query}
 
 -- a query that begins may be asked for its first answer
 pub can-start : {M : Type 0} (manner : Manner) (m : MachineView M) (b : Budget) (program : List PredTree) (q : QueryTree) → IsAtStart m b manner.answers program q → b.steps ≡ manner.steps → CanAnswer manner program q m b 0 []
@@ -30,13 +31,13 @@ can-start manner m b program q start its_steps = record {
 
 -- what comes next is an answer, and its lines were written
 pub next-answer : {M : Type 0} (lines : Lines) (n : MachineView M) (c : Budget) (given : ℕ) (program : List PredTree) (q : QueryTree) (happening : Happening) (a : Answer) (before its : List SinkWrite) →
-    happening ≡ Happening.Answer a → IsNext lines n c given program q happening before → HandsAll (where_told lines (answer_lines a)) its → IsWritten lines n c (given + 1) program q (before ++ its)
+    happening ≡ Happening.Answer a → IsNext (told_query lines program q) n c given happening before → HandsAll (where_told lines (answer_lines a)) its → IsWritten (told_query lines program q) n c (given + 1) (before ++ its)
 next-answer lines n c given program q happening a before its is next handed =
     written-answer lines next.before n next.budget c given program q a before its next.so_far next.called (rw is at next.happens) (rw is at next.lasts) handed
 
 -- the line of an end was written: it is no `stopped`, since with one answer more asked for it is the end too
 pub ends-at : (lines : Lines) (answers given steps : ℕ) (program : List PredTree) (q : QueryTree) (ticks status : ℕ) (writes : List SinkWrite) →
-    EndsBehind lines given steps program q ticks status writes → EndsAt lines answers (given + 1) steps program q ticks writes
+    EndsBehind lines given steps program q ticks status writes → EndsAt (asked_query lines answers steps program q) (given + 1) ticks writes
 ends-at lines answers given steps program q ticks status writes is =
     let next : Ends (given + 1) is.part is.run is.ending = is.ends (given + 1) (omega arith) in
     let later : Ends (given + 2) is.part is.run is.ending = is.ends (given + 2) (omega arith) in
@@ -56,7 +57,7 @@ ends-at lines answers given steps program q ticks status writes is =
 
 -- what is cut off behind the answers before is cut off within the next request
 pub cut-at : (lines : Lines) (answers given steps its : ℕ) (program : List PredTree) (q : QueryTree) (ticks status : ℕ) (writes : List SinkWrite) → its ≡ steps → given < answers →
-    IsCutBehind lines given its program q ticks status writes → IsCutAt lines answers (given + 1) steps program q ticks status writes
+    IsCutBehind (told_query lines program q) given its ticks status writes → IsCutAt (asked_query lines answers steps program q) (given + 1) ticks status writes
 cut-at lines answers given steps its program q ticks status writes same less cut = record {
   run = cut.run;
   part = cut.part;
@@ -69,7 +70,7 @@ cut-at lines answers given steps its program q ticks status writes same less cut
 
 -- what it comes to with an end is its end
 pub ends-at-limit : (lines : Lines) (answers requests steps : ℕ) (program : List PredTree) (q : QueryTree) (ticks status : ℕ) (writes : List SinkWrite) → requests ≡ answers →
-    ComesTo lines requests steps program q ticks (Ok status) writes → EndsAt lines answers requests steps program q ticks writes
+    ComesTo (asked_query lines requests steps program q) ticks (Ok status) writes → EndsAt (asked_query lines answers steps program q) requests ticks writes
 ends-at-limit lines answers requests steps program q ticks status writes all is = record {
   run = is.run;
   part = is.part;
@@ -83,7 +84,7 @@ ends-at-limit lines answers requests steps program q ticks status writes all is 
 
 -- or that is cut off
 pub cut-at-limit : (lines : Lines) (answers requests steps : ℕ) (program : List PredTree) (q : QueryTree) (ticks status : ℕ) (writes : List SinkWrite) → requests ≡ answers →
-    QueryIsCut lines requests steps program q ticks status writes → IsCutAt lines answers requests steps program q ticks status writes
+    QueryIsCut (asked_query lines requests steps program q) ticks status writes → IsCutAt (asked_query lines answers steps program q) requests ticks status writes
 cut-at-limit lines answers requests steps program q ticks status writes all cut = record {
   run = cut.run;
   part = cut.part;

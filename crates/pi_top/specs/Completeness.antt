@@ -5,7 +5,6 @@ use Rattle.pi_outside.specs.Writes.{SinkWrite}
 use Rattle.pi_syntax.specs.ExpTree.{ExpTree}
 use Rattle.pi_syntax.specs.ProgramTree.{ProgramTree}
 use Rattle.pi_print_program.specs.Canonical.{canonical_text}
-use Rattle.pi_core.specs.declared.log.LogEntry.{LogEntry}
 use Rattle.pi_top.specs.declared.runs.QueryRun.{QueryRun}
 use Rattle.pi_top_words.specs.declared.run_mode.RunMode.{RunMode}
 use Rattle.pi_top_words.specs.declared.run_mode.RunMode.TheVariants.{Print, Demo}
@@ -17,6 +16,7 @@ use Rattle.pi_top.specs.Runs.{HasRan}
 use Rattle.pi_top.specs.SoleLine.{IsLine}
 use Rattle.pi_top.specs.Handing.{Written}
 use Rattle.pi_top.specs.Texts.{IsRead}
+use Rattle.pi_top.specs.Told.{Lists}
 use Rattle.pi_top_words.specs.Words.{options, places_of}
 use Rattle.pi_top.specs.Ends.{AsksSession}
 use Rattle.pi_top.specs.Demo.{demo_program}
@@ -34,13 +34,13 @@ IsText Demo asked held text = (places : ℕ) × (places_of asked ≡ Some places
 IsText other asked held text = IsRead held asked.file text
 
 -- the goal was run to its end: its status is 0, 1, 4 or 5
-pub record IsComplete (asked : Options) (held : Option Holding) (queries : List QueryRun) (log : List LogEntry) (status : ℕ) (writes : List SinkWrite) : Type 0 where
+pub record IsComplete (asked : Options) (held : Option Holding) (runs : Lists) (status : ℕ) (writes : List SinkWrite) : Type 0 where
   pub text : List ℕ
   pub is_text : IsText asked.mode asked held text
   pub program : ProgramTree
   pub of_program : ExpTree
   pub asks : Asks text (goal_of asked) program of_program
-  pub ran : Written (HasRan (manner_of asked) program of_program log queries status) writes
+  pub ran : Written (HasRan (manner_of asked) program of_program runs status) writes
 
 -- the program was printed whole: its status is 0
 pub record IsPrinted (asked : Options) (held : Option Holding) (queries : List QueryRun) (status : ℕ) (writes : List SinkWrite) : Type 0 where
@@ -51,12 +51,12 @@ pub record IsPrinted (asked : Options) (held : Option Holding) (queries : List Q
   pub printed : Written (IsLine (canonical_text program) 0 status queries) writes
 
 -- in a mode
-abbrev pub CompletesIn : RunMode → Options → Option Holding → List QueryRun → List LogEntry → ℕ → List SinkWrite → Type 0
-CompletesIn Print asked held queries log status writes = IsPrinted asked held queries status writes
-CompletesIn other asked held queries log status writes = IsComplete asked held queries log status writes
+abbrev pub CompletesIn : RunMode → Options → Option Holding → Lists → ℕ → List SinkWrite → Type 0
+CompletesIn Print asked held runs status writes = IsPrinted asked held runs.queries status writes
+CompletesIn other asked held runs status writes = IsComplete asked held runs status writes
 
-abbrev pub Completes : Options → Option Holding → List QueryRun → List LogEntry → ℕ → List SinkWrite → Type 0
-Completes asked held queries log status writes = (status ≡ 9) ⊎ CompletesIn asked.mode asked held queries log status writes
+abbrev pub Completes : Options → Option Holding → Lists → ℕ → List SinkWrite → Type 0
+Completes asked held runs status writes = (status ≡ 9) ⊎ CompletesIn asked.mode asked held runs status writes
 
 -- the words ask a session, the program has no fault and the input isn't too long, and no count of faults rose: that of the files, of the input, and of the sink
 pub record NothingFailsInSession (words : List (List ℕ)) (asked : Options) (status : ℕ) (files input sink : FaultCount) : Type 0 where

@@ -32,3 +32,7 @@ pub mod Session
 pub mod SessionCode
 pub mod SessionEnds
 pub mod Turn
+pub mod Over
+pub mod Promise
+pub mod Told
+pub mod QueryWords

@@ -2,16 +2,17 @@
 use Rattle.std.specs.Prelude.{◌≡◌, ◌<◌, ℕ, ◌+◌, List, [], ◌∷◌, ◌++◌, Option, None, Some, Result, Ok, Err}
 use Rattle.pi_outside.specs.Writes.{SinkWrite}
 use Rattle.pi_core.specs.CoreTree.{PredTree, QueryTree}
-use Rattle.pi_constraints.specs.Store.{StoreView}
 use Rattle.pi_meaning.specs.declared.happening.Budget.{Budget}
 use Rattle.pi_meaning.specs.Machine.Budget.{IsWithin}
 use Rattle.pi_meaning.specs.Machine.Built.{IsRunnable}
-use Rattle.pi_engine.specs.Seen.{MachineView, machine_view}
+use Rattle.pi_engine.specs.Seen.{MachineView}
+use Rattle.pi_engine.specs.declared.machine.Machine.{Machine}
 use Rattle.pi_top.specs.declared.manner.Manner.{Manner}
 use Rattle.pi_top.specs.declared.runs.QueryRun.{QueryRun}
 use Rattle.pi_top.specs.declared.present.Present.{Present as PresentRun}
 use Rattle.pi_top.specs.declared.query.Stop.{Stop}
 use Rattle.pi_top.specs.Stops.{status_of_stop}
+use Rattle.pi_top.specs.QueryWords.{BegunQuery, asked_in, told_query}
 use Rattle.pi_top.specs.Running.{IsWritten}
 use Rattle.pi_top.specs.Runs.{no_work, run_of}
 use Rattle.pi_top.specs.Turn.{EndsAt, IsCutAt}
@@ -28,7 +29,7 @@ IsBounded steps (Some present) = IsInBudget steps present.budget
 
 -- so many of its answers were written, by these writes, and more of them are asked for
 pub record CanAnswer {M : Type 0} (manner : Manner) (program : List PredTree) (q : QueryTree) (m : MachineView M) (budget : Budget) (given : ℕ) (first : List SinkWrite) : Type 0 where
-  pub written : IsWritten manner.lines m budget given program q first
+  pub written : IsWritten (told_query manner.lines program q) m budget given first
   pub runnable : IsRunnable program q
   pub fewer : given < manner.answers
   pub its_steps : budget.steps ≡ manner.steps
@@ -47,18 +48,18 @@ pub record AnswersMore {M : Type 0} (manner : Manner) (program : List PredTree) 
 -- its end was written
 pub record AnswersEnd (manner : Manner) (program : List PredTree) (q : QueryTree) (given : ℕ) (earlier queries : List QueryRun) (writes : List SinkWrite) : Type 0 where
   pub ticks : ℕ
-  pub ends : EndsAt manner.lines manner.answers (given + 1) manner.steps program q ticks writes
+  pub ends : EndsAt (asked_in manner program q) (given + 1) ticks writes
   pub last : IsListedLast earlier ticks queries
 
 -- it was cut off
 pub record AnswersCut (manner : Manner) (program : List PredTree) (q : QueryTree) (given : ℕ) (earlier queries : List QueryRun) (status : ℕ) (writes : List SinkWrite) : Type 0 where
   pub ticks : ℕ
-  pub cut : IsCutAt manner.lines manner.answers (given + 1) manner.steps program q ticks status writes
+  pub cut : IsCutAt (asked_in manner program q) (given + 1) ticks status writes
   pub last : IsListedLast earlier ticks queries
 
 -- what a request of it comes to, by what is answered
-abbrev pub AnswerComes : {S M : Type 0} → (S → StoreView M) → (M → ℕ) → Manner → List PredTree → QueryTree → ℕ → List QueryRun → Result (Option (PresentRun S M)) Stop → List QueryRun → List SinkWrite → Type 0
-AnswerComes seen order manner program q given earlier (Ok (Some present)) queries writes =
-    AnswersMore manner program q (machine_view seen order present.machine) present.budget given present.given earlier queries writes
-AnswerComes seen order manner program q given earlier (Ok None) queries writes = AnswersEnd manner program q given earlier queries writes
-AnswerComes seen order manner program q given earlier (Err stop) queries writes = AnswersCut manner program q given earlier queries (status_of_stop stop) writes
+abbrev pub AnswerComes : {S M : Type 0} → (Machine S M → MachineView M) → Manner → BegunQuery → Result (Option (PresentRun S M)) Stop → List QueryRun → List SinkWrite → Type 0
+AnswerComes view manner begun (Ok (Some present)) queries writes =
+    AnswersMore manner begun.program begun.query (view present.machine) present.budget begun.given present.given begun.earlier queries writes
+AnswerComes view manner begun (Ok None) queries writes = AnswersEnd manner begun.program begun.query begun.given begun.earlier queries writes
+AnswerComes view manner begun (Err stop) queries writes = AnswersCut manner begun.program begun.query begun.given begun.earlier queries (status_of_stop stop) writes

@@ -26,6 +26,7 @@ use Rattle.pi_top.specs.Stops.{status_of_stop}
 use Rattle.pi_top.specs.Handing.{HandsAll, FailsIn}
 use Rattle.pi_top.specs.Prefix.{IsPrefix}
 use Rattle.pi_top.specs.QueryEnd.{QueryEnd, status_of, count_answers, EndsWithLast, Ends}
+use Rattle.pi_top.specs.QueryWords.{ToldQuery, AskedQuery}
 use Rattle.pi_top.specs.Runs.{no_work, run_of}
 use Rattle.pi_top.specs.ToldLines.{where_told, end_lines}
 
@@ -44,15 +45,15 @@ pub record IsQueryPart (program : List PredTree) (q : QueryTree) (steps : ℕ) (
   pub begins : IsPrefix part run.events
 
 -- its end is written
-pub record QueryEnds (lines : Lines) (answers steps : ℕ) (program : List PredTree) (q : QueryTree) (ticks status : ℕ) (writes : List SinkWrite) : Type 0 where
+pub record QueryEnds (asked : AskedQuery) (ticks status : ℕ) (writes : List SinkWrite) : Type 0 where
   pub run : Cut Solution
   pub part : List (Emitted Solution)
-  pub is_part : IsQueryPart program q steps run part
+  pub is_part : IsQueryPart asked.program asked.query asked.steps run part
   pub ticks_in_it : ticks ≡ count_ticks part
   pub ending : QueryEnd
-  pub ends : Ends answers part run ending
+  pub ends : Ends asked.answers part run ending
   pub its_status : status ≡ status_of ending
-  pub written : HandsAll (print_solutions lines q.names part ++ end_lines lines ending) writes
+  pub written : HandsAll (print_solutions asked.lines asked.query.names part ++ end_lines asked.lines ending) writes
 
 -- it is cut off
 pub data HowQueryIsCut (lines : Lines) (answers : ℕ) (q : QueryTree) (run : Cut Solution) (part : List (Emitted Solution)) (ticks status : ℕ) (writes : List SinkWrite) : Type 0 where
@@ -65,18 +66,18 @@ pub data HowQueryIsCut (lines : Lines) (answers : ℕ) (q : QueryTree) (run : Cu
   at_memory : status ≡ 9 → ticks ≡ count_ticks part → count_answers part < answers → HandsAll (print_solutions lines q.names part) writes →
       HowQueryIsCut lines answers q run part ticks status writes
 
-pub record QueryIsCut (lines : Lines) (answers steps : ℕ) (program : List PredTree) (q : QueryTree) (ticks status : ℕ) (writes : List SinkWrite) : Type 0 where
+pub record QueryIsCut (asked : AskedQuery) (ticks status : ℕ) (writes : List SinkWrite) : Type 0 where
   pub run : Cut Solution
   pub part : List (Emitted Solution)
-  pub is_part : IsQueryPart program q steps run part
-  pub how : HowQueryIsCut lines answers q run part ticks status writes
+  pub is_part : IsQueryPart asked.program asked.query asked.steps run part
+  pub how : HowQueryIsCut asked.lines asked.answers asked.query run part ticks status writes
 
 -- it is cut off behind so many answers: in one part of its run, alike for each number of answers above these that is asked for
-pub record IsCutBehind (lines : Lines) (given steps : ℕ) (program : List PredTree) (q : QueryTree) (ticks status : ℕ) (writes : List SinkWrite) : Type 0 where
+pub record IsCutBehind (of : ToldQuery) (given steps ticks status : ℕ) (writes : List SinkWrite) : Type 0 where
   pub run : Cut Solution
   pub part : List (Emitted Solution)
-  pub is_part : IsQueryPart program q steps run part
-  pub how : (asked : ℕ) → given < asked → HowQueryIsCut lines asked q run part ticks status writes
+  pub is_part : IsQueryPart of.program of.query steps run part
+  pub how : (asked : ℕ) → given < asked → HowQueryIsCut of.lines asked of.query run part ticks status writes
 
 -- ---- while it runs
 
@@ -92,19 +93,19 @@ pub record IsAtStart {M : Type 0} (m : MachineView M) (b : Budget) (answers : �
   pub asked : 0 < answers
 
 -- so many answers were written, and all that was run is printed
-pub record IsSoFar {M : Type 0} (lines : Lines) (m : MachineView M) (b : Budget) (given : ℕ) (program : List PredTree) (q : QueryTree) (writes : List SinkWrite) : Type 0 where
+pub record IsSoFar {M : Type 0} (of : ToldQuery) (m : MachineView M) (b : Budget) (given : ℕ) (writes : List SinkWrite) : Type 0 where
   pub events : List (Emitted Solution)
-  pub runs : RunsTo (query_view []) m program q events
+  pub runs : RunsTo (query_view []) m of.program of.query events
   pub counts_ticks : mode_of m ≡ Mode.Top
   pub running : GoesOn m
   pub answers : count_answers events ≡ given
   pub ticks : b.ticks ≡ count_ticks events
   pub within : IsWithin b
-  pub written : HandsAll (print_solutions lines q.names events) writes
+  pub written : HandsAll (print_solutions of.lines of.query.names events) writes
 
 -- the same, where nothing comes behind the last answer
-pub record IsWritten {M : Type 0} (lines : Lines) (m : MachineView M) (b : Budget) (given : ℕ) (program : List PredTree) (q : QueryTree) (writes : List SinkWrite) : Type 0 where
-  pub so_far : IsSoFar lines m b given program q writes
+pub record IsWritten {M : Type 0} (of : ToldQuery) (m : MachineView M) (b : Budget) (given : ℕ) (writes : List SinkWrite) : Type 0 where
+  pub so_far : IsSoFar of m b given writes
   pub last : 0 < given → EndsWithLast given so_far.events
 
 -- the budget after a call of `next`, on a machine that counts Ticks
@@ -114,33 +115,33 @@ pub record Called {M : Type 0} (m n : MachineView M) (b c : Budget) : Type 0 whe
   pub mode : mode_of n ≡ mode_of m
 
 -- what comes next that is no text, behind all texts that were written before it
-pub record IsNext {M : Type 0} (lines : Lines) (n : MachineView M) (c : Budget) (given : ℕ) (program : List PredTree) (q : QueryTree) (happening : Happening) (writes : List SinkWrite) : Type 0 where
+pub record IsNext {M : Type 0} (of : ToldQuery) (n : MachineView M) (c : Budget) (given : ℕ) (happening : Happening) (writes : List SinkWrite) : Type 0 where
   pub before : MachineView M
   pub budget : Budget
-  pub so_far : IsSoFar lines before budget given program q writes
+  pub so_far : IsSoFar of before budget given writes
   pub called : Called before n budget c
-  pub happens : HappensByTicks (query_view []) program q so_far.events before n budget c happening
+  pub happens : HappensByTicks (query_view []) of.program of.query so_far.events before n budget c happening
   pub no_text : (text : List ℕ) → happening ≡ Happening.Out text → ⊥
   pub lasts : end_of n ≡ lasting happening
 
 -- that, or the writing of a text is cut off
-abbrev pub NextComes : {M : Type 0} → Lines → ℕ → List PredTree → QueryTree → MachineView M → Budget → Result Happening Stop → List SinkWrite → Type 0
-NextComes lines given program q n c (Ok happening) writes = IsNext lines n c given program q happening writes
-NextComes lines given program q n c (Err stop) writes = IsCutBehind lines given c.steps program q c.ticks (status_of_stop stop) writes
+abbrev pub NextComes : {M : Type 0} → ToldQuery → ℕ → MachineView M → Budget → Result Happening Stop → List SinkWrite → Type 0
+NextComes of given n c (Ok happening) writes = IsNext of n c given happening writes
+NextComes of given n c (Err stop) writes = IsCutBehind of given c.steps c.ticks (status_of_stop stop) writes
 
 -- what it comes to, by what is answered
-abbrev pub ComesTo : Lines → ℕ → ℕ → List PredTree → QueryTree → ℕ → Result ℕ Stop → List SinkWrite → Type 0
-ComesTo lines answers steps program q ticks (Ok status) writes = QueryEnds lines answers steps program q ticks status writes
-ComesTo lines answers steps program q ticks (Err stop) writes = QueryIsCut lines answers steps program q ticks (status_of_stop stop) writes
+abbrev pub ComesTo : AskedQuery → ℕ → Result ℕ Stop → List SinkWrite → Type 0
+ComesTo asked ticks (Ok status) writes = QueryEnds asked ticks status writes
+ComesTo asked ticks (Err stop) writes = QueryIsCut asked ticks (status_of_stop stop) writes
 
 -- it is listed behind those that were run before, with its Ticks, and comes to this
-pub record IsListed (lines : Lines) (answers steps : ℕ) (program : List PredTree) (q : QueryTree) (old new : List QueryRun) (r : Result ℕ Stop) (writes : List SinkWrite) : Type 0 where
+pub record IsListed (asked : AskedQuery) (old new : List QueryRun) (r : Result ℕ Stop) (writes : List SinkWrite) : Type 0 where
   pub ticks : ℕ
   pub listed : new ≡ old ++ run_of ticks ∷ []
-  pub within : ticks ≤ steps
-  pub comes : ComesTo lines answers steps program q ticks r writes
+  pub within : ticks ≤ asked.steps
+  pub comes : ComesTo asked ticks r writes
 
 -- or memory is wanted before it is asked, and nothing is listed or written
-pub data HasRun (lines : Lines) (answers steps : ℕ) (program : List PredTree) (q : QueryTree) (old new : List QueryRun) (r : Result ℕ Stop) (writes : List SinkWrite) : Type 0 where
-  not_asked : r ≡ Err Memory → new ≡ old → writes ≡ [] → HasRun lines answers steps program q old new r writes
-  was_asked : IsListed lines answers steps program q old new r writes → HasRun lines answers steps program q old new r writes
+pub data HasRun (asked : AskedQuery) (old new : List QueryRun) (r : Result ℕ Stop) (writes : List SinkWrite) : Type 0 where
+  not_asked : r ≡ Err Memory → new ≡ old → writes ≡ [] → HasRun asked old new r writes
+  was_asked : IsListed asked old new r writes → HasRun asked old new r writes

@@ -3,11 +3,11 @@ use Rattle.std.specs.Prelude.{◌≡◌, ◌≤◌, ℕ, List, [], ◌∷◌}
 use Rattle.pi_outside.specs.Writes.{SinkWrite}
 use Rattle.pi_syntax.specs.ExpTree.{ExpTree}
 use Rattle.pi_syntax.specs.ProgramTree.{ProgramTree}
-use Rattle.pi_core.specs.declared.log.LogEntry.{LogEntry}
 use Rattle.pi_core.specs.declared.log.Work.{Work}
 use Rattle.pi_top.specs.declared.manner.Manner.{Manner}
 use Rattle.pi_top.specs.declared.runs.QueryRun.{QueryRun}
 use Rattle.pi_top.specs.Headline.{Headline, IsCutOff}
+use Rattle.pi_top.specs.Told.{Lists}
 
 -- there is no planner yet, and no propagator
 abbrev pub no_work : Work
@@ -18,17 +18,17 @@ abbrev pub run_of : ℕ → QueryRun
 run_of ticks = record { ticks = ticks; work = no_work; known = 0; first = 0 }
 
 -- a goal was run, and it alone is listed; it came to this
-pub record HasRan (manner : Manner) (program : ProgramTree) (goal : ExpTree) (log : List LogEntry) (queries : List QueryRun) (status : ℕ) (texts : List (List ℕ)) : Type 0 where
+pub record HasRan (manner : Manner) (program : ProgramTree) (goal : ExpTree) (runs : Lists) (status : ℕ) (texts : List (List ℕ)) : Type 0 where
   pub ticks : ℕ
-  pub listed : queries ≡ run_of ticks ∷ []
-  pub headline : Headline manner program goal log ticks status texts
+  pub listed : runs.queries ≡ run_of ticks ∷ []
+  pub headline : Headline manner program goal runs.log ticks status texts
 
 -- a goal was asked, and it alone is listed, with no more Ticks than it may take; its run was cut off
-pub record WasCutOff (manner : Manner) (program : ProgramTree) (goal : ExpTree) (log : List LogEntry) (queries : List QueryRun) (status : ℕ) (writes : List SinkWrite) : Type 0 where
+pub record WasCutOff (manner : Manner) (program : ProgramTree) (goal : ExpTree) (runs : Lists) (status : ℕ) (writes : List SinkWrite) : Type 0 where
   pub ticks : ℕ
-  pub listed : queries ≡ run_of ticks ∷ []
+  pub listed : runs.queries ≡ run_of ticks ∷ []
   pub within : ticks ≤ manner.steps
-  pub cut : IsCutOff manner program goal log ticks status writes
+  pub cut : IsCutOff manner program goal runs.log ticks status writes
 
 -- each of these runs took no more Ticks than this
 abbrev pub AllWithin : ℕ → List QueryRun → Type 0

@@ -1,9 +1,9 @@
 -- A line that is served, by what the code answers: the bridge between the code's present query and that of `Serving`.
 use Rattle.std.specs.Prelude.{◌≡◌, ℕ, List, [], Option, None, Some, Result, Ok, Err}
 use Rattle.pi_outside.specs.Writes.{SinkWrite}
-use Rattle.pi_core.specs.CoreTree.{PredTree, QueryTree}
+use Rattle.pi_core.specs.CoreTree.{PredTree, QueryTree, program_tree}
 use Rattle.pi_syntax.specs.ExpTree.{ExpTree}
-use Rattle.pi_syntax.specs.ProgramTree.{ProgramTree}
+use Rattle.pi_syntax.specs.ProgramTree.{ProgramTree, source_tree}
 use Rattle.pi_constraints.specs.Store.{StoreView}
 use Rattle.pi_meaning.specs.declared.happening.Budget.{Budget}
 use Rattle.pi_engine.specs.Seen.{MachineView, machine_view}
@@ -12,10 +12,16 @@ use Rattle.pi_outside.specs.Requests.{Asked}
 use Rattle.pi_top.specs.declared.manner.Manner.{Manner}
 use Rattle.pi_top.specs.declared.runs.QueryRun.{QueryRun}
 use Rattle.pi_top.specs.declared.present.Present.{Present as PresentRun}
+use Rattle.pi_top.specs.declared.session.Session.{Session}
 use Rattle.pi_top.specs.declared.query.Stop.{Stop}
 use Rattle.pi_top.specs.Stops.{status_of_stop}
 use Rattle.pi_top.specs.Serving.{Present, no_query, query, Serves, CutServing}
 use Rattle.pi_top.specs.PresentCode.{CanAnswer, IsListedLast}
+use Rattle.pi_top.specs.QueryWords.{SessionOf, session_of, ListedOver}
+
+-- what a session is, by the code's own, over a kind of store
+abbrev pub its_session : {S M : Type 0} → (S → StoreView M) → (M → ℕ) → Session → SessionOf S M
+its_session seen order its = session_of seen order its.manner (source_tree its.program.now) (program_tree its.core.now)
 
 -- the present query is run so: its goal is that of a query of the core language, and it had so many requests
 pub record IsKept {M : Type 0} (manner : Manner) (program : ProgramTree) (core : List PredTree) (m : MachineView M) (budget : Budget) (given : ℕ) (goal : ExpTree) (requests : ℕ) (first : List SinkWrite) (queries : List QueryRun) : Type 0 where
@@ -27,19 +33,19 @@ pub record IsKept {M : Type 0} (manner : Manner) (program : ProgramTree) (core :
   pub last : IsListedLast earlier budget.ticks queries
 
 -- this is the present query, by what the code has of it
-abbrev pub Keeps : {S M : Type 0} → (S → StoreView M) → (M → ℕ) → Manner → ProgramTree → List PredTree → Option (PresentRun S M) → Present → List QueryRun → Type 0
-Keeps seen order manner program core None present queries = present ≡ no_query
-Keeps seen order manner program core (Some run) no_query queries = ⊥
-Keeps seen order manner program core (Some run) (query goal requests first) queries =
-    IsKept manner program core (machine_view seen order run.machine) run.budget run.given goal requests first queries
+abbrev pub Keeps : {S M : Type 0} → SessionOf S M → Option (PresentRun S M) → Present → List QueryRun → Type 0
+Keeps session None present queries = present ≡ no_query
+Keeps session (Some run) no_query queries = ⊥
+Keeps session (Some run) (query goal requests first) queries =
+    IsKept session.manner session.program session.core (machine_view session.seen session.order run.machine) run.budget run.given goal requests first queries
 
 -- the line was served, and this is the present query then
-pub record ServesAll {S M : Type 0} (seen : S → StoreView M) (order : M → ℕ) (manner : Manner) (program : ProgramTree) (core : List PredTree) (present : Present) (asked : Asked) (run : Option (PresentRun S M)) (old new : List QueryRun) (writes : List SinkWrite) : Type 0 where
+pub record ServesAll {S M : Type 0} (session : SessionOf S M) (present : Present) (asked : Asked) (run : Option (PresentRun S M)) (queries : ListedOver) (writes : List SinkWrite) : Type 0 where
   pub next : Present
-  pub serves : Serves manner program [] present asked next old new writes
-  pub keeps : Keeps seen order manner program core run next new
+  pub serves : Serves session.manner session.program [] present asked next queries.old queries.new writes
+  pub keeps : Keeps session run next queries.new
 
 -- by what is answered
-abbrev pub ServesTo : {S M : Type 0} → (S → StoreView M) → (M → ℕ) → Manner → ProgramTree → List PredTree → Present → Asked → Result (Option (PresentRun S M)) Stop → List QueryRun → List QueryRun → List SinkWrite → Type 0
-ServesTo seen order manner program core present asked (Ok run) old new writes = ServesAll seen order manner program core present asked run old new writes
-ServesTo seen order manner program core present asked (Err stop) old new writes = CutServing manner program [] present asked old new (status_of_stop stop) writes
+abbrev pub ServesTo : {S M : Type 0} → SessionOf S M → Present → Asked → Result (Option (PresentRun S M)) Stop → ListedOver → List SinkWrite → Type 0
+ServesTo session present asked (Ok run) queries writes = ServesAll session present asked run queries writes
+ServesTo session present asked (Err stop) queries writes = CutServing session.manner session.program [] present asked queries.old queries.new (status_of_stop stop) writes

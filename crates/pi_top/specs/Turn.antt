@@ -1,46 +1,45 @@
 -- What one request of a query comes to: its next answer, or its end. Here it is a query of the core language, whose run is that of the goal over its names.
 use Rattle.std.specs.Prelude.{◌≡◌, ◌<◌, ◌+◌, ℕ, List, ◌++◌, Option, None, Some, Result, Ok, Err}
 use Rattle.pi_outside.specs.Writes.{SinkWrite}
-use Rattle.pi_core.specs.CoreTree.{PredTree, QueryTree}
 use Rattle.pi_meaning.specs.Traces.Trace.{Emitted, count_ticks}
 use Rattle.pi_meaning.specs.Traces.Depth.{Cut}
 use Rattle.pi_meaning.specs.CoreMeaning.Run.{Solution}
 use Rattle.pi_meaning.specs.declared.happening.Budget.{Budget}
 use Rattle.pi_engine.specs.Seen.{MachineView}
-use Rattle.pi_top.specs.declared.manner.Lines.{Lines}
 use Rattle.pi_top.specs.declared.query.Stop.{Stop}
 use Rattle.pi_top.specs.Stops.{status_of_stop}
 use Rattle.pi_top.specs.Handing.{HandsAll}
 use Rattle.pi_top.specs.QueryEnd.{QueryEnd, Stopped, Ends}
+use Rattle.pi_top.specs.QueryWords.{ToldQuery, told_query, AskedQuery}
 use Rattle.pi_top.specs.Running.{print_solutions, IsQueryPart, HowQueryIsCut, IsWritten}
 use Rattle.pi_top.specs.ToldLines.{end_lines}
 
 -- at the last of so many requests its end is written; it is stopped where as many answers were written as are asked for
-pub record EndsAt (lines : Lines) (answers requests steps : ℕ) (program : List PredTree) (q : QueryTree) (ticks : ℕ) (writes : List SinkWrite) : Type 0 where
+pub record EndsAt (asked : AskedQuery) (requests ticks : ℕ) (writes : List SinkWrite) : Type 0 where
   pub run : Cut Solution
   pub part : List (Emitted Solution)
-  pub is_part : IsQueryPart program q steps run part
+  pub is_part : IsQueryPart asked.program asked.query asked.steps run part
   pub ticks_in_it : ticks ≡ count_ticks part
   pub ending : QueryEnd
   pub ends : Ends requests part run ending
-  pub at_limit : ending ≡ Stopped → requests ≡ answers
-  pub written : HandsAll (print_solutions lines q.names part ++ end_lines lines ending) writes
+  pub at_limit : ending ≡ Stopped → requests ≡ asked.answers
+  pub written : HandsAll (print_solutions asked.lines asked.query.names part ++ end_lines asked.lines ending) writes
 
 -- an answer more was written, and more of them may be asked for
-pub record GoesOnAt {M : Type 0} (lines : Lines) (answers requests : ℕ) (program : List PredTree) (q : QueryTree) (n : MachineView M) (c : Budget) (writes : List SinkWrite) : Type 0 where
-  pub written : IsWritten lines n c requests program q writes
+pub record GoesOnAt {M : Type 0} (of : ToldQuery) (answers requests : ℕ) (n : MachineView M) (c : Budget) (writes : List SinkWrite) : Type 0 where
+  pub written : IsWritten of n c requests writes
   pub fewer : requests < answers
 
 -- it is cut off within the last of so many requests, and so it is with all answers that are asked for in place of these; one part of its run for both, so the line whose write failed is no `stopped` that comes too early
-pub record IsCutAt (lines : Lines) (answers requests steps : ℕ) (program : List PredTree) (q : QueryTree) (ticks status : ℕ) (writes : List SinkWrite) : Type 0 where
+pub record IsCutAt (asked : AskedQuery) (requests ticks status : ℕ) (writes : List SinkWrite) : Type 0 where
   pub run : Cut Solution
   pub part : List (Emitted Solution)
-  pub is_part : IsQueryPart program q steps run part
-  pub at_request : HowQueryIsCut lines requests q run part ticks status writes
-  pub in_all : HowQueryIsCut lines answers q run part ticks status writes
+  pub is_part : IsQueryPart asked.program asked.query asked.steps run part
+  pub at_request : HowQueryIsCut asked.lines requests asked.query run part ticks status writes
+  pub in_all : HowQueryIsCut asked.lines asked.answers asked.query run part ticks status writes
 
 -- by what is answered, where so many answers were written before
-abbrev pub TurnComes : {M : Type 0} → Lines → ℕ → ℕ → ℕ → List PredTree → QueryTree → MachineView M → Budget → Result (Option ℕ) Stop → List SinkWrite → Type 0
-TurnComes lines answers given steps program q n c (Ok (Some more)) writes = (more ≡ given + 1) × GoesOnAt lines answers (given + 1) program q n c writes
-TurnComes lines answers given steps program q n c (Ok None) writes = EndsAt lines answers (given + 1) steps program q c.ticks writes
-TurnComes lines answers given steps program q n c (Err stop) writes = IsCutAt lines answers (given + 1) steps program q c.ticks (status_of_stop stop) writes
+abbrev pub TurnComes : {M : Type 0} → AskedQuery → ℕ → MachineView M → Budget → Result (Option ℕ) Stop → List SinkWrite → Type 0
+TurnComes asked given n c (Ok (Some more)) writes = (more ≡ given + 1) × GoesOnAt (told_query asked.lines asked.program asked.query) asked.answers (given + 1) n c writes
+TurnComes asked given n c (Ok None) writes = EndsAt asked (given + 1) c.ticks writes
+TurnComes asked given n c (Err stop) writes = IsCutAt asked (given + 1) c.ticks (status_of_stop stop) writes

@@ -14,6 +14,7 @@ ghost use Rattle.pi_top.specs.Asking.{IsReady, IsUnready, AsksOf, RefusesOf};
 ghost use Rattle.pi_top.specs.Session.{ServesItsLines, SessionsAreOne};
 ghost use Rattle.pi_top.specs.SoleLine.{IsLine};
 ghost use Rattle.pi_top.specs.Statuses.{ComesText, ComesPrinted};
+ghost use Rattle.pi_top.specs.Told.{lists};
 
 use pi_lex::one_reading;
 use pi_prog::one_verdict;
@@ -59,20 +60,20 @@ pub fn sessions_are_one()
 pub fn outcomes_are_one()
     ensures endings { EndingIsOne }
     ensures refused { (manner : Manner) (text goal line : List ℕ) (texts : List (List ℕ)) (queries : List QueryRun)
-        (log : List LogEntry) (status : ℕ) → Refused text goal line → ComesText manner text goal queries log status texts →
+        (log : List LogEntry) (status : ℕ) → Refused text goal line → ComesText manner text goal (lists queries log) status texts →
         IsLine line 3 status queries texts }
     ensures run { (manner : Manner) (text goal : List ℕ) (texts : List (List ℕ)) (program : ProgramTree) (of_program : ExpTree)
         (queries : List QueryRun) (log : List LogEntry) (status : ℕ) → Asks text goal program of_program →
-        ComesText manner text goal queries log status texts → status ≢ 3 }
+        ComesText manner text goal (lists queries log) status texts → status ≢ 3 }
     ensures status { (manner : Manner) (text goal : List ℕ) (texts others : List (List ℕ)) (queries runs : List QueryRun)
-        (log : List LogEntry) (status other : ℕ) → ComesText manner text goal queries log status texts →
-        ComesText manner text goal runs log other others → status ≡ other }
+        (log : List LogEntry) (status other : ℕ) → ComesText manner text goal (lists queries log) status texts →
+        ComesText manner text goal (lists runs log) other others → status ≡ other }
     ensures queries { (manner : Manner) (text goal : List ℕ) (texts others : List (List ℕ)) (queries runs : List QueryRun)
-        (log : List LogEntry) (status other : ℕ) → ComesText manner text goal queries log status texts →
-        ComesText manner text goal runs log other others → queries ≡ runs }
+        (log : List LogEntry) (status other : ℕ) → ComesText manner text goal (lists queries log) status texts →
+        ComesText manner text goal (lists runs log) other others → queries ≡ runs }
     ensures texts { (manner : Manner) (text goal : List ℕ) (texts others : List (List ℕ)) (queries runs : List QueryRun)
-        (log : List LogEntry) (status other : ℕ) → ComesText manner text goal queries log status texts →
-        ComesText manner text goal runs log other others → texts ≡ others }
+        (log : List LogEntry) (status other : ℕ) → ComesText manner text goal (lists queries log) status texts →
+        ComesText manner text goal (lists runs log) other others → texts ≡ others }
     ensures printed { (text : List ℕ) (texts others : List (List ℕ)) (queries runs : List QueryRun) (status other : ℕ) →
         ComesPrinted text queries status texts → ComesPrinted text runs other others →
         (queries ≡ runs) × (status ≡ other) × (texts ≡ others) }

@@ -1,5 +1,5 @@
 //! The present query of a session, one request after the other.
-ghost use Rattle.std.specs.Prelude.{◌≡◌, ◌<◌, ℕ, List, [], ◌∷◌, ◌++◌, IfOk};
+ghost use Rattle.std.specs.Prelude.{◌≡◌, ◌<◌, List, [], ◌∷◌, ◌++◌, IfOk};
 ghost use Rattle.pi_outside.specs.Writes.{ByWrites, SinkWrite};
 ghost use Rattle.pi_core.specs.CoreTree.{PredTree, QueryTree};
 ghost use Rattle.pi_meaning.specs.Machine.Budget.{IsWithin};
@@ -12,6 +12,7 @@ ghost use Rattle.pi_top.specs.Running.{IsWritten};
 ghost use Rattle.pi_top.specs.Runs.{AllWithin};
 ghost use Rattle.pi_top.specs.PresentCode.{IsInBudget, IsBounded, CanAnswer, AnswerComes};
 ghost use Rattle.pi_top.specs.Turn.{TurnComes};
+ghost use Rattle.pi_top.specs.QueryWords.{asked_query, begun_query, told_query};
 
 use crate::manner::Manner;
 use crate::query::{Stop, ended_behind_answers, next_told, run_of, write_answer, write_end};
@@ -45,7 +46,8 @@ pub fn answer<'p, S: StateStore, O: Sink>(
         (λ writes. (first : List SinkWrite) (program : List PredTree) (q : QueryTree) (earlier : List QueryRun) (run : QueryRun) →
         queries.old ≡ earlier ++ run ∷ [] → CanAnswer manner.now program q
         (machine_view S.seen S.order present.entry.machine) present.entry.budget present.entry.given first →
-        AnswerComes S.seen S.order manner.now program q present.entry.given earlier result queries.new (first ++ writes)) }
+        AnswerComes (machine_view S.seen S.order) manner.now (begun_query program q present.entry.given earlier) result queries.new
+        (first ++ writes)) }
 {
     let Present {
         mut machine,
@@ -81,9 +83,9 @@ fn write_next<S: StateStore, O: Sink>(
     ensures work { mode_of (machine_view S.seen S.order machine.old) ≡ Mode.Top → budget.new.work ≡ budget.old.work }
     ensures comes { ByWrites O.wrote O.taken out.old out.new
         (λ writes. (first : List SinkWrite) (program : List PredTree) (q : QueryTree) →
-        IsWritten manner.now.lines (machine_view S.seen S.order machine.old) budget.old given program q first →
+        IsWritten (told_query manner.now.lines program q) (machine_view S.seen S.order machine.old) budget.old given first →
         IsRunnable program q → given < manner.now.answers →
-        TurnComes manner.now.lines manner.now.answers given budget.old.steps program q
+        TurnComes (asked_query manner.now.lines manner.now.answers budget.old.steps program q) given
         (machine_view S.seen S.order machine.new) budget.new result (first ++ writes)) }
 {
     match next_told(machine, budget, out)? {

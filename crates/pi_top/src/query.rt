@@ -17,6 +17,7 @@ ghost use Rattle.pi_top.specs.ToldLines.{where_told};
 ghost use Rattle.pi_top.specs.Running.{IsAtStart, IsSoFar, NextComes, ComesTo, HasRun};
 ghost use Rattle.pi_top.specs.Runs.{AllWithin};
 ghost use Rattle.pi_top.specs.Writing.{Writes, WritesEnd};
+ghost use Rattle.pi_top.specs.QueryWords.{asked_in, asked_query, told_query};
 
 use crate::handed::write_text;
 use crate::manner::{Lines, Manner};
@@ -68,8 +69,8 @@ pub fn run_query<O: Sink>(
     ensures status { IfOk result IsRun }
     ensures ran { AllWithin manner.now.steps queries.old → AllWithin manner.now.steps queries.new }
     ensures comes { ByWrites O.wrote O.taken out.old out.new (λ writes. IsRunnable (program_tree core.now) (query_tree query) →
-        0 < manner.now.answers → HasRun manner.now.lines manner.now.answers manner.now.steps (program_tree core.now)
-        (query_tree query) queries.old queries.new result writes) }
+        0 < manner.now.answers →
+        HasRun (asked_in manner.now (program_tree core.now) (query_tree query)) queries.old queries.new result writes) }
 {
     let store = RawStore::new(alloc, Words::new(alloc));
     run_over(alloc, core, query, store, manner, out, queries)
@@ -90,8 +91,7 @@ fn run_over<S: StateStore, O: Sink>(
     ensures ran { AllWithin manner.now.steps queries.old → AllWithin manner.now.steps queries.new }
     ensures comes { ByWrites O.wrote O.taken out.old out.new (λ writes. (S.seen store).now.state ≡ empty_state →
         IsRunnable (program_tree core.now) (query_tree query) → 0 < manner.now.answers →
-        HasRun manner.now.lines manner.now.answers manner.now.steps (program_tree core.now)
-        (query_tree query) queries.old queries.new result writes) }
+        HasRun (asked_in manner.now (program_tree core.now) (query_tree query)) queries.old queries.new result writes) }
 {
     let begun = begin(alloc, core, query, store, manner, queries)?;
     let Begun {
@@ -118,7 +118,7 @@ fn write_answers<S: StateStore, O: Sink>(
     ensures work { mode_of (machine_view S.seen S.order machine.old) ≡ Mode.Top → budget.new.work ≡ budget.old.work }
     ensures comes { ByWrites O.wrote O.taken out.old out.new (λ writes. (program : List PredTree) (q : QueryTree) →
         IsAtStart (machine_view S.seen S.order machine.old) budget.old manner.now.answers program q →
-        ComesTo manner.now.lines manner.now.answers budget.old.steps program q budget.new.ticks result writes) }
+        ComesTo (asked_query manner.now.lines manner.now.answers budget.old.steps program q) budget.new.ticks result writes) }
 {
     for given in 0..manner.answers {
         match next_told(machine, budget, out)? {
@@ -142,8 +142,8 @@ pub fn next_told<S: StateStore, O: Sink>(
     ensures work { mode_of (machine_view S.seen S.order machine.old) ≡ Mode.Top → budget.new.work ≡ budget.old.work }
     ensures comes { ByWrites O.wrote O.taken out.old out.new
         (λ writes. (lines : Lines) (first : List SinkWrite) (given : ℕ) (program : List PredTree) (q : QueryTree) →
-        IsSoFar lines (machine_view S.seen S.order machine.old) budget.old given program q first → IsRunnable program q →
-        NextComes lines given program q (machine_view S.seen S.order machine.new) budget.new result (first ++ writes)) }
+        IsSoFar (told_query lines program q) (machine_view S.seen S.order machine.old) budget.old given first → IsRunnable program q →
+        NextComes (told_query lines program q) given (machine_view S.seen S.order machine.new) budget.new result (first ++ writes)) }
 {
     for _turn in 0..u64::MAX {
         match machine.next(budget) {

@@ -12,8 +12,10 @@ ghost use Rattle.pi_top.specs.Runs.{AllWithin};
 ghost use Rattle.pi_top.specs.Serving.{Present as PresentQuery};
 ghost use Rattle.pi_top.specs.AskingCode.{MayBeAsked};
 ghost use Rattle.pi_top.specs.PresentCode.{IsBounded};
-ghost use Rattle.pi_top.specs.ServingCode.{Keeps, ServesTo};
+ghost use Rattle.pi_top.specs.QueryWords.{listed_over};
+ghost use Rattle.pi_top.specs.ServingCode.{Keeps, ServesTo, its_session};
 ghost use Rattle.pi_top.specs.SessionCode.{AnswersSession};
+ghost use Rattle.pi_top.specs.Told.{input_read};
 
 use crate::asking::{GoalJudged, judge_goal};
 use crate::handed::{READ_FAULT, write_text};
@@ -60,8 +62,8 @@ impl<'p> Session<'p> {
         ensures comes { ByInput I.has_read I.rest input.old input.new
             (λ reads. ByWrites O.wrote O.taken out.old out.new
             (λ writes. MayBeAsked (source_tree self.now.program.now) (program_tree self.now.core.now) → 0 < self.now.manner.answers →
-            queries.old ≡ [] → AnswersSession self.now.manner (source_tree self.now.program.now) most
-            (counted (I.faults input.old) (I.faults input.new)) queries.new result reads writes)) }
+            queries.old ≡ [] → AnswersSession self.now.manner (source_tree self.now.program.now)
+            (input_read most (counted (I.faults input.old) (I.faults input.new)) reads) queries.new result writes)) }
     {
         let mut reader = LineReader::new(self.alloc, most)?;
         let mut present = None;
@@ -106,11 +108,9 @@ impl<'p> Session<'p> {
         ensures bounded { IsBounded self.now.manner.steps present.entry → IfOk result (IsBounded self.now.manner.steps) }
         ensures comes { ByWrites O.wrote O.taken out.old out.new (λ writes. (query : PresentQuery) →
             MayBeAsked (source_tree self.now.program.now) (program_tree self.now.core.now) → 0 < self.now.manner.answers →
-            Keeps ⟦<RawStore as StateStore>⟧.seen ⟦<RawStore as StateStore>⟧.order self.now.manner (source_tree self.now.program.now)
-            (program_tree self.now.core.now) present.entry query queries.old →
-            ServesTo ⟦<RawStore as StateStore>⟧.seen ⟦<RawStore as StateStore>⟧.order self.now.manner
-            (source_tree self.now.program.now) (program_tree self.now.core.now) query
-            (asked_by_line line.now) result queries.old queries.new writes) }
+            Keeps (its_session ⟦<RawStore as StateStore>⟧.seen ⟦<RawStore as StateStore>⟧.order self.now) present.entry query queries.old →
+            ServesTo (its_session ⟦<RawStore as StateStore>⟧.seen ⟦<RawStore as StateStore>⟧.order self.now) query
+            (asked_by_line line.now) result (listed_over queries.old queries.new) writes) }
     {
         match request_of(line) {
             Request::Nothing => Ok(present),
@@ -139,10 +139,9 @@ impl<'p> Session<'p> {
             AllWithin self.now.manner.steps queries.new }
         ensures bounded { IsBounded self.now.manner.steps present.entry → IfOk result (IsBounded self.now.manner.steps) }
         ensures comes { ByWrites O.wrote O.taken out.old out.new (λ writes. (query : PresentQuery) →
-            Keeps ⟦<RawStore as StateStore>⟧.seen ⟦<RawStore as StateStore>⟧.order self.now.manner (source_tree self.now.program.now)
-            (program_tree self.now.core.now) present.entry query queries.old →
-            ServesTo ⟦<RawStore as StateStore>⟧.seen ⟦<RawStore as StateStore>⟧.order self.now.manner
-            (source_tree self.now.program.now) (program_tree self.now.core.now) query another result queries.old queries.new writes) }
+            Keeps (its_session ⟦<RawStore as StateStore>⟧.seen ⟦<RawStore as StateStore>⟧.order self.now) present.entry query queries.old →
+            ServesTo (its_session ⟦<RawStore as StateStore>⟧.seen ⟦<RawStore as StateStore>⟧.order self.now) query
+            another result (listed_over queries.old queries.new) writes) }
     {
         match present {
             Some(present) => answer(self.alloc, present, &self.manner, out, queries),
@@ -165,9 +164,8 @@ impl<'p> Session<'p> {
         ensures bounded { IfOk result (IsBounded self.now.manner.steps) }
         ensures comes { ByWrites O.wrote O.taken out.old out.new (λ writes. (query : PresentQuery) →
             MayBeAsked (source_tree self.now.program.now) (program_tree self.now.core.now) → 0 < self.now.manner.answers →
-            ServesTo ⟦<RawStore as StateStore>⟧.seen ⟦<RawStore as StateStore>⟧.order self.now.manner
-            (source_tree self.now.program.now) (program_tree self.now.core.now) query
-            (a_goal text.now) result queries.old queries.new writes) }
+            ServesTo (its_session ⟦<RawStore as StateStore>⟧.seen ⟦<RawStore as StateStore>⟧.order self.now) query
+            (a_goal text.now) result (listed_over queries.old queries.new) writes) }
     {
         let judged = judge_goal(self.alloc, text, self.program, self.core)?;
         match judged {

@@ -8,6 +8,7 @@ ghost use Rattle.pi_outside.specs.Writes.{ByWrites};
 ghost use Rattle.pi_top.specs.Faults.{TellsWrites, counted};
 ghost use Rattle.pi_top.specs.Runs.{AllWithin};
 ghost use Rattle.pi_top.specs.SessionEnds.{AnswersSessionText, AnswersSessionFile};
+ghost use Rattle.pi_top.specs.Told.{files_read, input_read, lists};
 
 use crate::asking::{ProgramJudged, judge_program};
 use crate::files::{FileStop, read_file};
@@ -38,8 +39,8 @@ pub fn session_of_file<F: Files, I: Source, O: Sink>(
     ensures answers { ByReads F.has_read files.old files.new
         (λ reads. ByInput I.has_read I.rest input.old input.new
         (λ inputs. ByWrites O.wrote O.taken out.old out.new (λ writes. 0 < asked.now.answers → queries.old ≡ [] →
-        AnswersSessionFile asked.now (F.held files.new) most (counted (F.faults files.old) (F.faults files.new))
-        (counted (I.faults input.old) (I.faults input.new)) queries.new [] result reads inputs writes))) }
+        AnswersSessionFile asked.now (files_read (F.held files.new) (counted (F.faults files.old) (F.faults files.new)) reads)
+        (input_read most (counted (I.faults input.old) (I.faults input.new)) inputs) (lists queries.new []) result writes))) }
     ensures ran { AllWithin asked.now.steps queries.old → AllWithin asked.now.steps queries.new }
 {
     let text = match read_file(alloc, files, asked.file.as_str()) {
@@ -66,8 +67,8 @@ fn session_of_text<I: Source, O: Sink>(
     ensures spent { IfOk result (λ status. status ≡ 0 → IsSpent (I.rest input.new)) }
     ensures answers { ByInput I.has_read I.rest input.old input.new
         (λ inputs. ByWrites O.wrote O.taken out.old out.new (λ writes. 0 < asked.now.answers → queries.old ≡ [] →
-        AnswersSessionText asked.now text.items most (counted (I.faults input.old) (I.faults input.new)) queries.new []
-        result inputs writes)) }
+        AnswersSessionText asked.now text.items (input_read most (counted (I.faults input.old) (I.faults input.new)) inputs)
+        (lists queries.new []) result writes)) }
     ensures ran { AllWithin asked.now.steps queries.old → AllWithin asked.now.steps queries.new }
 {
     let judged = judge_program(alloc, text)?;

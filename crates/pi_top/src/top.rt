@@ -1,20 +1,21 @@
 //! The top call.
-ghost use Rattle.std.specs.Prelude.{◌≡◌, ◌≢◌, ◌<◌, ◌≤◌, ◌⊎◌, [], map, is_some, true, IfOk, IfErr, Some};
+ghost use Rattle.std.specs.Prelude.{◌≡◌, ◌<◌, [], map, is_some, true, IfOk, Some};
 ghost use Rattle.std.specs.String.{string_bytes};
 ghost use Rattle.pi_outside.specs.Faults.{NeverFalls, Rose};
 ghost use Rattle.pi_outside.specs.Given.{IsSpent};
 ghost use Rattle.pi_outside.specs.Inputs.{ByInput};
 ghost use Rattle.pi_outside.specs.Reads.{ByReads};
 ghost use Rattle.pi_outside.specs.Writes.{ByWrites};
-ghost use Rattle.pi_top.specs.Completeness.{NothingFails, NothingFailsInSession, Completes};
-ghost use Rattle.pi_top.specs.SessionEnds.{SessionEnds, AnswersSessionFile, most_input};
-ghost use Rattle.pi_top.specs.Ends.{Ends, AsksNoSession, AsksSession, ReadsNoFile, AnswersText, AnswersFile, AnswersMade, AnswersBy, GivesStatus};
+ghost use Rattle.pi_top.specs.SessionEnds.{AnswersSessionFile, most_input};
+ghost use Rattle.pi_top.specs.Ends.{AsksNoSession, AsksSession, ReadsNoFile, AnswersText, AnswersFile, AnswersMade, AnswersBy, GivesStatus};
 ghost use Rattle.pi_top.specs.Faults.{FaultCount, Stands, counted, TellsWrites};
 ghost use Rattle.pi_top.specs.Manner.{goal_of, manner_of};
+ghost use Rattle.pi_top.specs.Over.{files_over, input_over, sink_over};
+ghost use Rattle.pi_top.specs.Promise.{Promise};
 ghost use Rattle.pi_top.specs.Runs.{AllWithin};
-ghost use Rattle.pi_top.specs.Texts.{IsRead};
 ghost use Rattle.pi_top_words.specs.Words.{options, places_of};
 ghost use Rattle.pi_top_words.specs.declared.asked.Options.{Options};
+ghost use Rattle.pi_top.specs.Told.{files_read, input_read, lists};
 
 use crate::demo::demo_text;
 use crate::files::{FileStop, read_file};
@@ -36,7 +37,8 @@ use std::alloc::Global;
 const MOST_INPUT: u64 = 1_073_741_824;
 
 /// Runs picatq on the words behind the program's name: reads the program from `files`, asks its goal, or those of the lines
-/// of `input`, and writes what there is to say to `out`, each line as it comes.
+/// of `input`, and writes what there is to say to `out`, each line as it comes. What it promises is one record, `Promise` of
+/// `specs/Promise.antt`.
 pub fn picatq<F: Files, I: Source, O: Sink>(
     alloc: Global,
     words: &[String],
@@ -44,41 +46,8 @@ pub fn picatq<F: Files, I: Source, O: Sink>(
     input: &mut I,
     out: &mut O,
 ) -> Outcome
-    ensures statuses { result.status ≤ 9 }
-    ensures ends { ByReads F.has_read files.old files.new
-        (λ reads. ByWrites O.wrote O.taken out.old out.new (λ writes. AsksNoSession (options (map string_bytes words.now)) →
-        Ends (map string_bytes words.now) (F.held files.new) result.queries result.log result.status
-        (counted (F.faults files.old) (F.faults files.new)) (counted (O.faults out.old) (O.faults out.new)) reads writes)) }
-    ensures session { ByReads F.has_read files.old files.new
-        (λ reads. ByInput I.has_read I.rest input.old input.new
-        (λ inputs. ByWrites O.wrote O.taken out.old out.new (λ writes. (asked : Options) →
-        AsksSession (options (map string_bytes words.now)) asked →
-        SessionEnds asked (F.held files.new) most_input result.queries result.log result.status
-        (counted (F.faults files.old) (F.faults files.new)) (counted (I.faults input.old) (I.faults input.new))
-        (counted (O.faults out.old) (O.faults out.new)) reads inputs writes))) }
-    ensures complete { ByWrites O.wrote O.taken out.old out.new (λ writes. (asked : Options) →
-        AsksNoSession (options (map string_bytes words.now)) →
-        NothingFails (map string_bytes words.now) asked result.status (counted (F.faults files.old) (F.faults files.new))
-        (counted (O.faults out.old) (O.faults out.new)) →
-        Completes asked (F.held files.new) result.queries result.log result.status writes) }
-    ensures complete_session { (asked : Options) →
-        NothingFailsInSession (map string_bytes words.now) asked result.status (counted (F.faults files.old) (F.faults files.new))
-        (counted (I.faults input.old) (I.faults input.new)) (counted (O.faults out.old) (O.faults out.new)) →
-        (result.status ≡ 0) ⊎ (result.status ≡ 9) }
-    ensures spent { (asked : Options) → AsksSession (options (map string_bytes words.now)) asked → result.status ≡ 0 →
-        IsSpent (I.rest input.new) }
-    ensures read_fault { result.status ≡ 7 → Rose (F.faults files.old) (F.faults files.new) ⊎ Rose (I.faults input.old)
-        (I.faults input.new) }
-    ensures reads_well { result.status ≢ 7 → result.status ≢ 8 →
-        (F.faults files.new ≡ F.faults files.old) × (I.faults input.new ≡ I.faults input.old) }
-    ensures write_fault { result.status ≡ 8 → Rose (O.faults out.old) (O.faults out.new) }
-    ensures writes_well { result.status ≢ 8 → result.status ≢ 9 → O.faults out.new ≡ O.faults out.old }
-    ensures never_falls { NeverFalls (O.faults out.old) (O.faults out.new) }
-    ensures unread { ReadsNoFile (options (map string_bytes words.now)) → files.new ≡ files.old }
-    ensures no_input { AsksNoSession (options (map string_bytes words.now)) → input.new ≡ input.old }
-    ensures no_log { result.log ≡ [] }
-    ensures none_entered { result.entered ≡ [] }
-    ensures ran { (asked : Options) → options (map string_bytes words.now) ≡ Some asked → AllWithin asked.steps result.queries }
+    ensures { Promise most_input (map string_bytes words.now) (files_over F.has_read F.held F.faults files.old files.new)
+        (input_over I.has_read I.rest I.faults input.old input.new) (sink_over O.wrote O.taken O.faults out.old out.new) result }
 {
     picatq_limited(alloc, words, files, input, out, MOST_INPUT)
 }
@@ -92,41 +61,8 @@ pub fn picatq_limited<F: Files, I: Source, O: Sink>(
     out: &mut O,
     most: u64,
 ) -> Outcome
-    ensures statuses { result.status ≤ 9 }
-    ensures ends { ByReads F.has_read files.old files.new
-        (λ reads. ByWrites O.wrote O.taken out.old out.new (λ writes. AsksNoSession (options (map string_bytes words.now)) →
-        Ends (map string_bytes words.now) (F.held files.new) result.queries result.log result.status
-        (counted (F.faults files.old) (F.faults files.new)) (counted (O.faults out.old) (O.faults out.new)) reads writes)) }
-    ensures session { ByReads F.has_read files.old files.new
-        (λ reads. ByInput I.has_read I.rest input.old input.new
-        (λ inputs. ByWrites O.wrote O.taken out.old out.new (λ writes. (asked : Options) →
-        AsksSession (options (map string_bytes words.now)) asked →
-        SessionEnds asked (F.held files.new) most result.queries result.log result.status
-        (counted (F.faults files.old) (F.faults files.new)) (counted (I.faults input.old) (I.faults input.new))
-        (counted (O.faults out.old) (O.faults out.new)) reads inputs writes))) }
-    ensures complete { ByWrites O.wrote O.taken out.old out.new (λ writes. (asked : Options) →
-        AsksNoSession (options (map string_bytes words.now)) →
-        NothingFails (map string_bytes words.now) asked result.status (counted (F.faults files.old) (F.faults files.new))
-        (counted (O.faults out.old) (O.faults out.new)) →
-        Completes asked (F.held files.new) result.queries result.log result.status writes) }
-    ensures complete_session { (asked : Options) →
-        NothingFailsInSession (map string_bytes words.now) asked result.status (counted (F.faults files.old) (F.faults files.new))
-        (counted (I.faults input.old) (I.faults input.new)) (counted (O.faults out.old) (O.faults out.new)) →
-        (result.status ≡ 0) ⊎ (result.status ≡ 9) }
-    ensures spent { (asked : Options) → AsksSession (options (map string_bytes words.now)) asked → result.status ≡ 0 →
-        IsSpent (I.rest input.new) }
-    ensures read_fault { result.status ≡ 7 → Rose (F.faults files.old) (F.faults files.new) ⊎ Rose (I.faults input.old)
-        (I.faults input.new) }
-    ensures reads_well { result.status ≢ 7 → result.status ≢ 8 →
-        (F.faults files.new ≡ F.faults files.old) × (I.faults input.new ≡ I.faults input.old) }
-    ensures write_fault { result.status ≡ 8 → Rose (O.faults out.old) (O.faults out.new) }
-    ensures writes_well { result.status ≢ 8 → result.status ≢ 9 → O.faults out.new ≡ O.faults out.old }
-    ensures never_falls { NeverFalls (O.faults out.old) (O.faults out.new) }
-    ensures unread { ReadsNoFile (options (map string_bytes words.now)) → files.new ≡ files.old }
-    ensures no_input { AsksNoSession (options (map string_bytes words.now)) → input.new ≡ input.old }
-    ensures no_log { result.log ≡ [] }
-    ensures none_entered { result.entered ≡ [] }
-    ensures ran { (asked : Options) → options (map string_bytes words.now) ≡ Some asked → AllWithin asked.steps result.queries }
+    ensures { Promise most (map string_bytes words.now) (files_over F.has_read F.held F.faults files.old files.new)
+        (input_over I.has_read I.rest I.faults input.old input.new) (sink_over O.wrote O.taken O.faults out.old out.new) result }
 {
     let mut queries = Series::new(alloc);
     let answer = answered(alloc, words, files, input, most, out, &mut queries);
@@ -174,14 +110,15 @@ fn answered<F: Files, I: Source, O: Sink>(
     ensures answers { ByReads F.has_read files.old files.new
         (λ reads. ByWrites O.wrote O.taken out.old out.new (λ writes. queries.old ≡ [] →
         AsksNoSession (options (map string_bytes words.now)) →
-        AnswersBy (options (map string_bytes words.now)) (F.held files.new)
-        (counted (F.faults files.old) (F.faults files.new)) queries.new [] result reads writes)) }
+        AnswersBy (options (map string_bytes words.now))
+        (files_read (F.held files.new) (counted (F.faults files.old) (F.faults files.new)) reads)
+        (lists queries.new []) result writes)) }
     ensures session { ByReads F.has_read files.old files.new
         (λ reads. ByInput I.has_read I.rest input.old input.new
         (λ inputs. ByWrites O.wrote O.taken out.old out.new (λ writes. queries.old ≡ [] → (asked : Options) →
         AsksSession (options (map string_bytes words.now)) asked →
-        AnswersSessionFile asked (F.held files.new) most (counted (F.faults files.old) (F.faults files.new))
-        (counted (I.faults input.old) (I.faults input.new)) queries.new [] result reads inputs writes))) }
+        AnswersSessionFile asked (files_read (F.held files.new) (counted (F.faults files.old) (F.faults files.new)) reads)
+        (input_read most (counted (I.faults input.old) (I.faults input.new)) inputs) (lists queries.new []) result writes))) }
     ensures ran { (asked : Options) → options (map string_bytes words.now) ≡ Some asked → AllWithin asked.steps queries.old →
         AllWithin asked.steps queries.new }
 {
@@ -212,8 +149,8 @@ fn asked_of_file<F: Files, O: Sink>(
     ensures status { IfOk result (λ status. status < 8) }
     ensures answers { ByReads F.has_read files.old files.new
         (λ reads. ByWrites O.wrote O.taken out.old out.new (λ writes. 0 < asked.now.answers → queries.old ≡ [] →
-        AnswersFile asked.now (F.held files.new) (counted (F.faults files.old) (F.faults files.new)) queries.new [] result reads
-        writes)) }
+        AnswersFile asked.now (files_read (F.held files.new) (counted (F.faults files.old) (F.faults files.new)) reads)
+        (lists queries.new []) result writes)) }
     ensures ran { AllWithin asked.now.steps queries.old → AllWithin asked.now.steps queries.new }
 {
     let text = match read_file(alloc, files, asked.file.as_str()) {
@@ -238,7 +175,7 @@ fn asked_of_demo<O: Sink>(
     ensures no_read { IfOk result (λ status. status < 7) }
     ensures answers { ByWrites O.wrote O.taken out.old out.new (λ writes. 0 < asked.now.answers →
         is_some (places_of asked.now) ≡ true → queries.old ≡ [] → (files : FaultCount) → Stands files →
-        AnswersMade asked.now files queries.new [] result [] writes) }
+        AnswersMade asked.now files [] (lists queries.new []) result writes) }
     ensures ran { AllWithin asked.now.steps queries.old → AllWithin asked.now.steps queries.new }
 {
     let Some(places) = asked.places() else {
@@ -261,7 +198,7 @@ fn asked_of_text<O: Sink>(
     ensures writes { TellsWrites (O.faults out.old) (O.faults out.new) result }
     ensures no_read { IfOk result (λ status. status < 7) }
     ensures answers { ByWrites O.wrote O.taken out.old out.new (λ writes. 0 < asked.now.answers → queries.old ≡ []
-        → AnswersText (manner_of asked.now) text.items (goal_of asked.now) queries.new [] result writes) }
+        → AnswersText (manner_of asked.now) text.items (goal_of asked.now) (lists queries.new []) result writes) }
     ensures ran { AllWithin asked.now.steps queries.old → AllWithin asked.now.steps queries.new }
 {
     let goal = goal_of(asked);

@@ -11,6 +11,7 @@ use Rattle.pi_top.specs.Stops.{status_of_stop}
 use Rattle.pi_top.proofs.QueryEndings.{comes-stopped, comes-cut, comes-end}
 use Rattle.pi_top.specs.Turn.{EndsAt, IsCutAt}
 use Rattle.pi_top.proofs.TurnRuns.{next-answer, ends-at, ends-at-limit, cut-at, cut-at-limit}
+use Rattle.pi_top.specs.QueryWords.{asked_query, told_query}
 use Rattle.pi_top.proofs.present.write_next.Goals as goal
 
 -- the writing of a text is cut off, or memory is wanted behind one
@@ -40,7 +41,7 @@ returns-in_err-write_answer-in-Answer-clause-comes g c =
     rw (p.1, same)
     (ByWrites-then next.comes c.in_err-write_answer-in-Answer.ensures.told (λ before its comes told. λ first program q w runnable less.
     let it = comes lines first c.args.given program q w.so_far runnable in
-    subst (λ (all : List SinkWrite). IsCutAt lines c.args.manner.now.answers (c.args.given + 1) steps program q after.ticks (status_of_stop stop) all) (append_assoc first before its)
+    subst (λ (all : List SinkWrite). IsCutAt (asked_query lines c.args.manner.now.answers steps program q) (c.args.given + 1) after.ticks (status_of_stop stop) all) (append_assoc first before its)
     (cut-at lines c.args.manner.now.answers c.args.given steps steps program q after.ticks (status_of_stop stop) ((first ++ before) ++ its) refl less
     (comes-cut lines it.before n it.budget after c.args.given steps program q c.in-Answer.answer stop (first ++ before) its
     runnable it.so_far it.called next.steps (rw c.in-Answer.is at it.happens) told.cut))))
@@ -59,7 +60,7 @@ returns-in_err-write_end-in_default-clause-comes g c =
     rw (p.1, same)
     (ByWrites-then next.comes c.in_err-write_end-in_default.ensures.told (λ before its comes told. λ first program q w runnable less.
     let it = comes lines first c.args.given program q w.so_far runnable in
-    subst (λ (all : List SinkWrite). IsCutAt lines c.args.manner.now.answers (c.args.given + 1) steps program q after.ticks (status_of_stop stop) all) (append_assoc first before its)
+    subst (λ (all : List SinkWrite). IsCutAt (asked_query lines c.args.manner.now.answers steps program q) (c.args.given + 1) after.ticks (status_of_stop stop) all) (append_assoc first before its)
     (cut-at lines c.args.manner.now.answers c.args.given steps steps program q after.ticks (status_of_stop stop) ((first ++ before) ++ its) refl less
     (comes-end lines it.before n it.budget after c.args.given steps program q c.in_ok-end.end _ (Err stop) (first ++ before) its
     runnable it.so_far it.called next.steps (λ e. grind (arith, nat_tests, e)) (λ e. grind (arith, nat_tests, e)) (λ a e. c.in_default.not-Answer a e) it.no_text it.happens told))))
@@ -73,7 +74,7 @@ returns-in_default-clause-comes g c =
     let steps = c.args.budget.now.steps in
     ByWrites-then next.comes c.in_ok-write_end-in_default.ensures.told (λ before its comes told. λ first program q w runnable less.
     let it = comes lines first c.args.given program q w.so_far runnable in
-    subst (λ (all : List SinkWrite). EndsAt lines c.args.manner.now.answers (c.args.given + 1) steps program q after.ticks all) (append_assoc first before its)
+    subst (λ (all : List SinkWrite). EndsAt (asked_query lines c.args.manner.now.answers steps program q) (c.args.given + 1) after.ticks all) (append_assoc first before its)
     (ends-at lines c.args.manner.now.answers c.args.given steps program q after.ticks c.in_ok-write_end-in_default.field-0 ((first ++ before) ++ its)
     (comes-end lines it.before n it.budget after c.args.given steps program q c.in_ok-end.end _ (Ok c.in_ok-write_end-in_default.field-0) (first ++ before) its
     runnable it.so_far it.called next.steps (λ e. grind (arith, nat_tests, e)) (λ e. grind (arith, nat_tests, e)) (λ a e. c.in_default.not-Answer a e) it.no_text it.happens told)))
@@ -88,7 +89,7 @@ returns-then-given-last-clause-comes g c =
     ByWrites-then next.comes c.in_ok-write_answer-in-Answer.ensures.told (λ before its comes told. λ first program q w runnable less.
     let it = comes lines first c.args.given program q w.so_far runnable in
     let written = next-answer lines n after c.args.given program q c.in_ok-end.end c.in-Answer.answer (first ++ before) its c.in-Answer.is it told.all in
-    (refl, record { written = subst (λ (all : List SinkWrite). IsWritten lines n after (c.args.given + 1) program q all) (append_assoc first before its) written; fewer = omega (arith, c.if-given-last.true, c.saturating_sub-last.ensures) }))
+    (refl, record { written = subst (λ (all : List SinkWrite). IsWritten (told_query lines program q) n after (c.args.given + 1) all) (append_assoc first before its) written; fewer = omega (arith, c.if-given-last.true, c.saturating_sub-last.ensures) }))
 
 -- as many as are asked for, and the line that says so is cut off
 pub returns-in_err-ended_behind_answers-clause-comes : goal.returns-in_err-ended_behind_answers-clause-comes
@@ -103,14 +104,14 @@ returns-in_err-ended_behind_answers-clause-comes g c =
     let p = err_from_is_err_and c.from_residual-in_err-ended_behind_answers.result c.from_residual-in_err-ended_behind_answers.ensures.1 in
     let same : p.0 ≡ stop = p.2 in
     let written : ByWrites g.O.Sink.wrote g.O.Sink.taken c.args.out.now c.write_answer.new.out (λ writes. (first : List SinkWrite) (program : List PredTree) (q : QueryTree) →
-    IsWritten lines (machine_view g.S.StateStore.seen g.S.StateStore.order c.args.machine.now) c.args.budget.now c.args.given program q first → IsRunnable program q → c.args.given < c.args.manner.now.answers →
-    IsWritten lines n after (c.args.given + 1) program q (first ++ writes)) =
+    IsWritten (told_query lines program q) (machine_view g.S.StateStore.seen g.S.StateStore.order c.args.machine.now) c.args.budget.now c.args.given first → IsRunnable program q → c.args.given < c.args.manner.now.answers →
+    IsWritten (told_query lines program q) n after (c.args.given + 1) (first ++ writes)) =
     ByWrites-then next.comes c.in_ok-write_answer-in-Answer.ensures.told (λ before its comes told. λ first program q w runnable less.
-    subst (λ (all : List SinkWrite). IsWritten lines n after (c.args.given + 1) program q all) (append_assoc first before its)
+    subst (λ (all : List SinkWrite). IsWritten (told_query lines program q) n after (c.args.given + 1) all) (append_assoc first before its)
     (next-answer lines n after c.args.given program q c.in_ok-end.end c.in-Answer.answer (first ++ before) its c.in-Answer.is (comes lines first c.args.given program q w.so_far runnable) told.all)) in
     rw (p.1, same)
     (ByWrites-then written ended.told (λ earlier last so_far told. λ first program q w runnable less.
-    subst (λ (all : List SinkWrite). IsCutAt lines c.args.manner.now.answers (c.args.given + 1) steps program q after.ticks (status_of_stop stop) all) (append_assoc first earlier last)
+    subst (λ (all : List SinkWrite). IsCutAt (asked_query lines c.args.manner.now.answers steps program q) (c.args.given + 1) after.ticks (status_of_stop stop) all) (append_assoc first earlier last)
     (cut-at-limit lines c.args.manner.now.answers (c.args.given + 1) steps program q after.ticks (status_of_stop stop) ((first ++ earlier) ++ last) (omega (arith, less, c.if-given-last.false, c.saturating_sub-last.ensures))
     (comes-stopped lines n after (c.args.given + 1) steps program q (Err stop) (first ++ earlier) last runnable (omega arith) next.steps (so_far first program q w runnable less) ended.stops
     (record { line = told; its_status = tt })))))
@@ -125,13 +126,13 @@ returns-clause-comes g c =
     let after = c.next_told.new.budget in
     let steps = c.args.budget.now.steps in
     let written : ByWrites g.O.Sink.wrote g.O.Sink.taken c.args.out.now c.write_answer.new.out (λ writes. (first : List SinkWrite) (program : List PredTree) (q : QueryTree) →
-    IsWritten lines (machine_view g.S.StateStore.seen g.S.StateStore.order c.args.machine.now) c.args.budget.now c.args.given program q first → IsRunnable program q → c.args.given < c.args.manner.now.answers →
-    IsWritten lines n after (c.args.given + 1) program q (first ++ writes)) =
+    IsWritten (told_query lines program q) (machine_view g.S.StateStore.seen g.S.StateStore.order c.args.machine.now) c.args.budget.now c.args.given first → IsRunnable program q → c.args.given < c.args.manner.now.answers →
+    IsWritten (told_query lines program q) n after (c.args.given + 1) (first ++ writes)) =
     ByWrites-then next.comes c.in_ok-write_answer-in-Answer.ensures.told (λ before its comes told. λ first program q w runnable less.
-    subst (λ (all : List SinkWrite). IsWritten lines n after (c.args.given + 1) program q all) (append_assoc first before its)
+    subst (λ (all : List SinkWrite). IsWritten (told_query lines program q) n after (c.args.given + 1) all) (append_assoc first before its)
     (next-answer lines n after c.args.given program q c.in_ok-end.end c.in-Answer.answer (first ++ before) its c.in-Answer.is (comes lines first c.args.given program q w.so_far runnable) told.all)) in
     ByWrites-then written ended.told (λ earlier last so_far told. λ first program q w runnable less.
-    subst (λ (all : List SinkWrite). EndsAt lines c.args.manner.now.answers (c.args.given + 1) steps program q after.ticks all) (append_assoc first earlier last)
+    subst (λ (all : List SinkWrite). EndsAt (asked_query lines c.args.manner.now.answers steps program q) (c.args.given + 1) after.ticks all) (append_assoc first earlier last)
     (ends-at-limit lines c.args.manner.now.answers (c.args.given + 1) steps program q after.ticks c.in_ok-ended_behind_answers.field-0 ((first ++ earlier) ++ last) (omega (arith, less, c.if-given-last.false, c.saturating_sub-last.ensures))
     (comes-stopped lines n after (c.args.given + 1) steps program q (Ok c.in_ok-ended_behind_answers.field-0) (first ++ earlier) last runnable (omega arith) next.steps (so_far first program q w runnable less) tt
     (record { line = told; its_status = ended.status }))))

@@ -9,6 +9,7 @@ use Rattle.pi_top.specs.Running.{IsSoFar, Called, NextComes}
 use Rattle.pi_top.proofs.HandedTexts.{hands-one, fails-one}
 use Rattle.pi_top.proofs.QueryRuns.{written-text}
 use Rattle.pi_top.proofs.QueryEndings.{text-cut, memory-cut}
+use Rattle.pi_top.specs.QueryWords.{told_query}
 use Rattle.pi_top.proofs.query.next_told.Goals as goal
 
 pub loop-turn-init : goal.loop-turn-init
@@ -36,7 +37,7 @@ loop-turn-preserved g c =
       no_fault = c.in_ok-write_text-in-Out.ensures.no_fault ∙ l.invariant.no_fault;
       so_far = ByWrites-then l.invariant.so_far (rw c.as_str.ensures at c.in_ok-write_text-in-Out.ensures.hands) (λ before its earlier handed. λ lines first given program q start.
           let w = earlier lines first given program q start in
-          subst (IsSoFar lines n c.next.new.budget given program q) (append_assoc first before its)
+          subst (IsSoFar (told_query lines program q) n c.next.new.budget given) (append_assoc first before its)
           (written-text lines m n l.budget c.next.new.budget given program q c.in-Out.text (first ++ before) its
           w called (next.ticks w.running (query_view []) program q w.events w.runs) next.lasts (hands-one c.in-Out.text its handed)));
     }
@@ -53,7 +54,7 @@ returns-in_err-write_text-in-Out-clause-comes g c =
     rw (p.1, write)
     (ByWrites-then l.invariant.so_far (rw c.as_str.ensures at c.in_err-write_text-in-Out.ensures.hands) (λ before its earlier fails. λ lines first given program q start runnable.
     let w = earlier lines first given program q start in
-    subst (NextComes lines given program q n c.next.new.budget (Err Write)) (append_assoc first before its)
+    subst (NextComes (told_query lines program q) given n c.next.new.budget (Err Write)) (append_assoc first before its)
     (text-cut lines m n l.budget c.next.new.budget given program q c.in-Out.text (first ++ before) its
     runnable w called (next.ticks w.running (query_view []) program q w.events w.runs) (fails-one c.in-Out.text its fails))))
 

@@ -9,6 +9,7 @@ use Rattle.pi_top.specs.Stops.{status_of_stop}
 use Rattle.pi_top.specs.Running.{QueryIsCut, IsAtStart, IsWritten, NextComes}
 use Rattle.pi_top.proofs.QueryRuns.{written-start, written-answer}
 use Rattle.pi_top.proofs.QueryEndings.{cut-with, comes-with, comes-stopped, comes-cut, comes-end}
+use Rattle.pi_top.specs.QueryWords.{asked_query, told_query}
 use Rattle.pi_top.proofs.query.write_answers.Goals as goal
 
 pub loop-given-init : goal.loop-given-init
@@ -31,7 +32,7 @@ returns-in_err-end-clause-comes g c =
     let same : p.0 ≡ c.in_err-end.field-0.0 = p.2 in
     rw (p.1, same)
     (ByWrites-then l.invariant.so_far next.comes (λ first second so_far comes. λ program q is.
-    subst (λ (steps : ℕ). QueryIsCut c.args.manner.now.lines c.args.manner.now.answers steps program q c.next_told.new.budget.ticks (status_of_stop c.in_err-end.field-0.0) (first ++ second)) (next.steps ∙ l.invariant.steps)
+    subst (λ (steps : ℕ). QueryIsCut (asked_query c.args.manner.now.lines c.args.manner.now.answers steps program q) c.next_told.new.budget.ticks (status_of_stop c.in_err-end.field-0.0) (first ++ second)) (next.steps ∙ l.invariant.steps)
     (cut-with c.args.manner.now.lines c.args.manner.now.answers l.given c.next_told.new.budget.steps program q c.next_told.new.budget.ticks (status_of_stop c.in_err-end.field-0.0) (first ++ second) c.loop-given-test.true
     (comes c.args.manner.now.lines first l.given program q (so_far program q is).so_far is.runnable))))
 
@@ -42,7 +43,7 @@ returns-in_err-write_answer-in-Answer-clause-comes g c =
     let n = machine_view g.S.StateStore.seen g.S.StateStore.order c.next_told.new.machine in
     let asked : ByWrites g.O.Sink.wrote g.O.Sink.taken c.args.out.now c.next_told.new.out (λ writes. (program : List PredTree) (q : QueryTree) →
     IsAtStart (machine_view g.S.StateStore.seen g.S.StateStore.order c.args.machine.now) c.args.budget.now c.args.manner.now.answers program q →
-    NextComes c.args.manner.now.lines l.given program q n c.next_told.new.budget (Ok c.in_ok-end.end) writes) =
+    NextComes (told_query c.args.manner.now.lines program q) l.given n c.next_told.new.budget (Ok c.in_ok-end.end) writes) =
     ByWrites-then l.invariant.so_far next.comes (λ first second so_far comes. λ program q is.
     comes c.args.manner.now.lines first l.given program q (so_far program q is).so_far is.runnable) in
     let p = err_from_is_err_and c.from_residual-in_err-write_answer-in-Answer.result c.from_residual-in_err-write_answer-in-Answer.ensures.1 in
@@ -61,7 +62,7 @@ returns-in_default g c =
     let n = machine_view g.S.StateStore.seen g.S.StateStore.order c.next_told.new.machine in
     let asked : ByWrites g.O.Sink.wrote g.O.Sink.taken c.args.out.now c.next_told.new.out (λ writes. (program : List PredTree) (q : QueryTree) →
     IsAtStart (machine_view g.S.StateStore.seen g.S.StateStore.order c.args.machine.now) c.args.budget.now c.args.manner.now.answers program q →
-    NextComes c.args.manner.now.lines l.given program q n c.next_told.new.budget (Ok c.in_ok-end.end) writes) =
+    NextComes (told_query c.args.manner.now.lines program q) l.given n c.next_told.new.budget (Ok c.in_ok-end.end) writes) =
     ByWrites-then l.invariant.so_far next.comes (λ first second so_far comes. λ program q is.
     comes c.args.manner.now.lines first l.given program q (so_far program q is).so_far is.runnable) in
     record {
@@ -85,7 +86,7 @@ loop-given-preserved g c =
     let n = machine_view g.S.StateStore.seen g.S.StateStore.order c.next_told.new.machine in
     let asked : ByWrites g.O.Sink.wrote g.O.Sink.taken c.args.out.now c.next_told.new.out (λ writes. (program : List PredTree) (q : QueryTree) →
     IsAtStart (machine_view g.S.StateStore.seen g.S.StateStore.order c.args.machine.now) c.args.budget.now c.args.manner.now.answers program q →
-    NextComes c.args.manner.now.lines l.given program q n c.next_told.new.budget (Ok c.in_ok-end.end) writes) =
+    NextComes (told_query c.args.manner.now.lines program q) l.given n c.next_told.new.budget (Ok c.in_ok-end.end) writes) =
     ByWrites-then l.invariant.so_far next.comes (λ first second so_far comes. λ program q is.
     comes c.args.manner.now.lines first l.given program q (so_far program q is).so_far is.runnable) in
     record {
@@ -106,6 +107,6 @@ returns-clause-comes g c =
     let m = machine_view g.S.StateStore.seen g.S.StateStore.order l.machine in
     let all : l.given ≡ c.args.manner.now.answers = omega (arith, c.loop-given-test.false, l.auto.given-end) in
     ByWrites-then l.invariant.so_far c.ended_behind_answers.ensures.told (λ first second so_far told. λ program q is.
-    let w : IsWritten c.args.manner.now.lines m l.budget c.args.manner.now.answers program q first = subst (λ given. IsWritten c.args.manner.now.lines m l.budget given program q first) all (so_far program q is) in
+    let w : IsWritten (told_query c.args.manner.now.lines program q) m l.budget c.args.manner.now.answers first = subst (λ given. IsWritten (told_query c.args.manner.now.lines program q) m l.budget given first) all (so_far program q is) in
     comes-stopped c.args.manner.now.lines m l.budget c.args.manner.now.answers c.args.budget.now.steps program q c.ended_behind_answers.result first second is.runnable is.asked l.invariant.steps w c.ended_behind_answers.ensures.stops
     (record { line = told; its_status = c.ended_behind_answers.ensures.status }))

@@ -15,6 +15,7 @@ use Rattle.pi_top.specs.AskingCode.{IsReadied}
 use Rattle.pi_top.specs.SessionCode.{AnswersSession}
 use Rattle.pi_top.proofs.AskedGoals.{may-be-asked}
 use Rattle.pi_top.proofs.SessionEndings.{text-nothing, text-unready, text-served}
+use Rattle.pi_top.specs.Told.{input_read}
 use Rattle.pi_top.proofs.session_file.session_of_text.Goals as goal
 
 pub returns-in_err-judged-clause-answers : goal.returns-in_err-judged-clause-answers
@@ -41,7 +42,7 @@ returns-in-Ready-clause-answers g c =
     let input = counted (g.I.Source.faults c.args.input.now) (g.I.Source.faults c.serve_all.new.input) in
     ByInput-so c.serve_all.ensures.comes (λ inputs by. ByWrites-so by (λ writes comes. λ some none.
     text-served c.args.asked.now c.args.text.items c.args.most input c.serve_all.new.queries program c.serve_all.result inputs writes is.is_ready
-    (subst (λ (m : Manner). AnswersSession m program c.args.most input c.serve_all.new.queries c.serve_all.result inputs writes) c.as_asked.ensures
+    (subst (λ (m : Manner). AnswersSession m program (input_read c.args.most input inputs) c.serve_all.new.queries c.serve_all.result writes) c.as_asked.ensures
     (comes (may-be-asked c.args.text.items program core is) (subst (λ (m : Manner). 0 < m.answers) (sym c.as_asked.ensures) some) none))))
 
 pub returns-in-Ready-clause-ran : goal.returns-in-Ready-clause-ran
