@@ -9,7 +9,7 @@ its page and line; the last line counts. What a page shows has these forms, of w
   `--mode session` stand the lines of its input, each with what it is answered by.
 - A command with what it writes: an indented block whose first paragraph has a command `./picatq ..`. The rest is what it writes; where there
   is none, it has to end without a fault.
-- A row of a table, by the titles of its columns: 'A goal' with 'What is written'; 'Examples'; 'Elsewhere' with 'What is written'.
+- A row of a table, by the titles of its columns: 'A goal', 'For instance' or 'Elsewhere' with what is written, and 'Examples' or 'Instead'.
 
 Each name of BUILTINS.md stands in the tables of built-in names of the sources, and each of those in BUILTINS.md. The time of a first build in
 README.md is that of the launcher."""
@@ -219,24 +219,36 @@ def check_goal(runs, place, program, goal, wanted):
     runs.compare(place, goal, wanted, trimmed(runs.run(['./picatq', *words], given)[1]))
 
 
-def check_elsewhere(runs, place, there, wanted):
-    """A goal or a program as one is used to write it, and the line that it gives here."""
-    for text in there:
-        is_program = wanted[0].startswith('program: ')
-        given = runs.ask(text, 'true') if is_program else runs.ask('', text)
-        runs.compare(place, text, wanted, given)
+def check_line(runs, place, kind, text, wanted):
+    """The one line that a program gives, whatever is asked of it, or a goal, or words."""
+    kind = kind or wanted[0].split(':')[0]
+    if kind == 'words':
+        given = without_end(runs.run(['./picatq', *text.split()])[1])
+    else:
+        given = runs.ask(text, 'true') if kind == 'program' else runs.ask('', text)
+    runs.compare(place, text, wanted, given)
+
+
+def check_instance(runs, place, cell, wanted):
+    """An instance of a line that is a program, a goal or words; others are told in prose."""
+    found = re.match(r'(?:the (program|goal|words) )?`([^`]+)`(?:$|, where)', cell)
+    if found:
+        check_line(runs, place, found[1], found[2], wanted)
 
 
 def check_tables(runs, page, lines):
     for table in tables_of(lines):
         for number, cells in table.rows:
             place, row = f'{page}:{number}', dict(zip(table.titles, cells))
-            if 'Examples' in row:
-                check_examples(runs, place, row['Examples'])
-            if 'Elsewhere' in row:
-                check_elsewhere(runs, place, spans_of(row['Elsewhere']), spans_of(row['What is written']))
-            elif 'A goal' in row and 'What is written' in row:
-                check_goal(runs, place, spans_of(row.get('A program', '')), spans_of(row['A goal']), spans_of(row['What is written']))
+            check_examples(runs, place, row.get('Examples', ''))
+            check_examples(runs, place, row.get('Instead', ''))
+            written = spans_of(row.get('What is written', row.get('Line', '')))
+            if 'For instance' in row:
+                check_instance(runs, place, row['For instance'], written)
+            elif 'Elsewhere' in row and written:
+                check_line(runs, place, None, *spans_of(row['Elsewhere']), written)
+            elif 'A goal' in row:
+                check_goal(runs, place, spans_of(row.get('A program', '')), spans_of(row['A goal']), written)
 
 
 # ---- names
