@@ -91,7 +91,10 @@ class Runs:
         (self.folder / 'examples').symlink_to(TOP / 'examples')
 
     def run(self, words, given=''):
-        done = subprocess.run(words, cwd=self.folder, input=given, stdout=subprocess.PIPE, stderr=subprocess.STDOUT, text=True, timeout=SECONDS)
+        try:
+            done = subprocess.run(words, cwd=self.folder, input=given, stdout=subprocess.PIPE, stderr=subprocess.STDOUT, text=True, timeout=SECONDS)
+        except subprocess.TimeoutExpired:
+            return None, [f'no end within {SECONDS} seconds']
         return done.returncode, done.stdout.split('\n')
 
     def ask(self, program, goal):
