@@ -2,17 +2,10 @@
 """Runs what the pages show and compares what it writes: check_pages.py PROGRAM [PAGE..]
 
 PROGRAM is a built picatq. Without PAGE it takes README.md, USE.md, LANGUAGE.md, BUILTINS.md and DIFFERENCES.md. Each difference is told, with
-its page and line; the last line counts. What a page shows has these forms, of which CONTRIBUTING.md tells more:
+its page and line; the last line counts. CONTRIBUTING.md has the forms in which a page shows programs, commands and goals.
 
-- A program: a block whose first line is `% NAME.pi`. Later commands of its page find it under that name.
-- A terminal: a block whose lines with `$ ` in front are commands for bash, with what each writes below it. Behind a command with
-  `--mode session` stand the lines of its input, each with what it is answered by.
-- A command with what it writes: an indented block whose first paragraph has a command `./picatq ..`. The rest is what it writes; where there
-  is none, it has to end without a fault.
-- A row of a table, by the titles of its columns: 'A goal', 'For instance' or 'Elsewhere' with what is written, and 'Examples' or 'Instead'.
-
-Each name of BUILTINS.md stands in the tables of built-in names of the sources, and each of those in BUILTINS.md. The time of a first build in
-README.md is that of the launcher."""
+Each name of BUILTINS.md has to stand in the tables of built-in names of the sources, and each of those in BUILTINS.md. The time of a first
+build in README.md is that of the launcher."""
 import collections, dataclasses, os, pathlib, re, shutil, subprocess, sys, tempfile
 
 TOP = pathlib.Path(__file__).resolve().parent.parent
@@ -124,6 +117,7 @@ def trimmed(lines):
 # ---- blocks
 
 def check_terminal(runs, place, text):
+    """Commands, each with what it writes. The status of one is `$?` in the next."""
     commands, status = [], 0
     for line in text:
         if line.startswith('$ '):
@@ -153,6 +147,7 @@ def check_session(runs, place, command, below):
 
 
 def check_command(runs, place, text):
+    """A paragraph of commands, and what they write."""
     middle = text.index('') if '' in text else len(text)
     script, wanted = text[:middle], trimmed(text[middle + 1:])
     status, lines = runs.run(['bash', '-c', '\n'.join(script)])
@@ -173,6 +168,8 @@ def check_blocks(runs, page, lines):
             check_terminal(runs, place, text)
         elif any(re.search(r'(^|[|] )\./picatq ', line) for line in first):
             check_command(runs, place, text)
+        elif block.is_fenced:
+            runs.compare(place, 'a block', 'a program or a terminal', text)
 
 
 # ---- rows of tables
