@@ -1,5 +1,5 @@
-use Rattle.pi_solve_spec.proofs.ApartLemmas.{rules_are_apart, conditions_are_apart, ticks_are_apart, straight_is_apart, sequences_are_apart, choices_are_apart, catches_are_apart, no_two_paths_are_one}
-use Rattle.pi_solve_spec.proofs.laws.paths.paths_lead_apart.Goals as goal
+use Rattle.pi_resume_spec.proofs.ApartLemmas.{rules_are_apart, conditions_are_apart, ticks_are_apart, straight_is_apart, sequences_are_apart, choices_are_apart, catches_are_apart, no_two_paths_are_one}
+use Rattle.pi_resume_spec.proofs.laws.paths.paths_lead_apart.Goals as goal
 
 pub returns-clause-straight : goal.returns-clause-straight
 returns-clause-straight g c = straight_is_apart

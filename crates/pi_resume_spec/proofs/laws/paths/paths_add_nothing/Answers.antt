@@ -1,5 +1,5 @@
-use Rattle.pi_solve_spec.proofs.PlainLemmas.{plain_of_rules, plain_of_numbered, plain_of_sequence, plain_of_choice, plain_of_catch}
-use Rattle.pi_solve_spec.proofs.laws.paths.paths_add_nothing.Goals as goal
+use Rattle.pi_resume_spec.proofs.PlainLemmas.{plain_of_rules, plain_of_numbered, plain_of_sequence, plain_of_choice, plain_of_catch}
+use Rattle.pi_resume_spec.proofs.laws.paths.paths_add_nothing.Goals as goal
 
 pub returns-clause-numbered : goal.returns-clause-numbered
 returns-clause-numbered g c = plain_of_numbered

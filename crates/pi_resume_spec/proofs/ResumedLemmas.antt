@@ -2,9 +2,9 @@
 use Rattle.std.specs.Prelude.{◌≡◌, ◌⊎◌, ℕ, List, ◌++◌, refl}
 use Rattle.std.proofs.Common.{sym, ◌∙◌, ap, subst, inl, inr, append_assoc}
 use Rattle.pi_meaning.specs.Traces.Trace.{Trace, end, note, ans, Done, Raise, Abort, Miss, Deep, Note, done, one, alt, then}
-use Rattle.pi_solve_spec.specs.Ways.{Way, Ways, behind, followed_by}
-use Rattle.pi_solve_spec.specs.Resumed.{Following, on_way, reached, cut_off, bad, Search, with_rest, follows_then, sequence, At, at_first, past_note, past_answer, Leads, IsResumable}
-use Rattle.pi_solve_spec.specs.PathLaws.{SequencesAreResumable}
+use Rattle.pi_resume_spec.specs.Ways.{Way, Ways, behind, followed_by}
+use Rattle.pi_resume_spec.specs.Resumed.{Following, on_way, reached, cut_off, bad, Search, with_rest, follows_then, sequence, At, at_first, past_note, past_answer, Leads, IsResumable}
+use Rattle.pi_resume_spec.specs.PathLaws.{SequencesAreResumable}
 
 -- ---- answers of traces that are put together
 
@@ -101,20 +101,24 @@ leads-then g bad p w q r path y left later h k = absurd h
 abbrev ways_from : {A B : Type 0} → (A → Search B) → Way A → Ways B
 ways_from g w = onward w.path (g w.answer).ways
 
-sequence-at : {A B : Type 0} (s : Search A) (g : A → Search B) → IsResumable s → ((x : A) → IsResumable (g x)) → (v : Way B) (rest : Ways B) (left : List ℕ) →
+sequence-at : {A B : Type 0} (s : Search A) (g : A → Search B) → IsResumable s → ((w : Way A) (r : Ways A) → At s.ways w r → IsResumable (g w.answer)) → (v : Way B) (rest : Ways B) (left : List ℕ) →
     AtThen s.ways (ways_from g) v rest → Leads ((sequence s g).follows (v.path ++ left)) v.path v.answer left rest
 unfolding then alt
 sequence-at s g hs hg v rest left (through w r q a b e) = inner s g hs hg v rest left w r q a e (at-then (g w.answer).ways (λ u. one (behind w.path u)) v q b)
   where
-    inner : {A B : Type 0} (s : Search A) (g : A → Search B) → IsResumable s → ((x : A) → IsResumable (g x)) → (v : Way B) (rest : Ways B) (left : List ℕ) (w : Way A) (r : Ways A) (q : Ways B) → At s.ways w r →
+    inner : {A B : Type 0} (s : Search A) (g : A → Search B) → IsResumable s → ((w : Way A) (r : Ways A) → At s.ways w r → IsResumable (g w.answer)) → (v : Way B) (rest : Ways B) (left : List ℕ) (w : Way A) (r : Ways A) (q : Ways B) → At s.ways w r →
         rest ≡ alt q (then r (ways_from g)) → AtThen (g w.answer).ways (λ u. one (behind w.path u)) v q → Leads ((sequence s g).follows (v.path ++ left)) v.path v.answer left rest
     inner s g hs hg v rest left w r q a e (through u t z c d f) =
         let is = at-one (behind w.path u) v z d in
         let whole : alt (onward w.path t) (then r (ways_from g)) ≡ rest = ap (λ k. alt (alt k (onward w.path t)) (then r (ways_from g))) (sym is.1) ∙ (ap (λ k. alt k (then r (ways_from g))) (sym f) ∙ sym e) in
-        let led = leads-then g (s.follows (w.path ++ (u.path ++ left))) w.path w.answer (u.path ++ left) r u.path u.answer left t (hs w r (u.path ++ left) a) (hg w.answer u t left c) in
+        let led = leads-then g (s.follows (w.path ++ (u.path ++ left))) w.path w.answer (u.path ++ left) r u.path u.answer left t (hs w r (u.path ++ left) a) (hg w r a u t left c) in
         let placed = subst (λ (l : List ℕ). Leads (follows_then (s.follows l) g) (w.path ++ u.path) u.answer left (alt (onward w.path t) (then r (ways_from g)))) (sym (append_assoc w.path u.path left)) led in
         let behind_it = subst (λ k. Leads (follows_then (s.follows ((w.path ++ u.path) ++ left)) g) (w.path ++ u.path) u.answer left k) whole placed in
         subst (λ k. Leads (follows_then (s.follows (k.path ++ left)) g) k.path k.answer left rest) (sym is.0) behind_it
 
+-- where what follows resumes from each answer that there is
+pub sequences-resume : {A B : Type 0} (s : Search A) (g : A → Search B) → IsResumable s → ((w : Way A) (r : Ways A) → At s.ways w r → IsResumable (g w.answer)) → IsResumable (sequence s g)
+sequences-resume s g hs hg v rest left a = sequence-at s g hs hg v rest left (at-then s.ways (ways_from g) v rest a)
+
 pub sequences_are_resumable : {A B : Type 0} → SequencesAreResumable A B
-sequences_are_resumable s g hs hg v rest left a = sequence-at s g hs hg v rest left (at-then s.ways (ways_from g) v rest a)
+sequences_are_resumable s g hs hg = sequences-resume s g hs (λ w r a. hg w.answer)

@@ -5,10 +5,10 @@ use Rattle.pi_terms.specs.Tree.{Tree}
 use Rattle.pi_meaning.specs.Traces.Trace.{Trace, end, note, ans, Done, Raise, Abort, Miss, Deep, Note, Tick, Load, Out, done, one, alt, then, end_of}
 use Rattle.pi_meaning.specs.Traces.Control.{caught, chosen}
 use Rattle.pi_meaning.proofs.Traces.TraceLemmas.{alt-done}
-use Rattle.pi_solve_spec.specs.Ways.{Way, Ways, choosing, numbered, choice_from}
-use Rattle.pi_solve_spec.specs.Resumed.{Following, on_way, reached, cut_off, bad, passed, Search, with_rest, ways_of, taken_from, alternatives, to_exception, with_handler, caught_at, RuleSearch, rest_unless, rules_ways, on_first, bad_if, rules_taken, rules_search, chosen_search, At, at_first, past_note, past_answer, Leads, IsResumable}
-use Rattle.pi_solve_spec.specs.PathLaws.{AllResumable, ChoicesAreResumable, CatchesAreResumable, AllBodies, RulesAreResumable, TicksAreResumable, ConditionsAreResumable}
-use Rattle.pi_solve_spec.proofs.ResumedLemmas.{AtAlt, in_front, in_behind, Begun, begun, at-alt, AtThen, through, at-then, at-one, leads-rest}
+use Rattle.pi_resume_spec.specs.Ways.{Way, Ways, choosing, numbered, choice_from}
+use Rattle.pi_resume_spec.specs.Resumed.{Following, on_way, reached, cut_off, bad, passed, Search, with_rest, ways_of, taken_from, alternatives, to_exception, with_handler, caught_at, RuleSearch, rest_unless, rules_ways, on_first, bad_if, rules_taken, rules_search, chosen_search, At, at_first, past_note, past_answer, Leads, IsResumable}
+use Rattle.pi_resume_spec.specs.PathLaws.{AllResumable, ChoicesAreResumable, CatchesAreResumable, AllBodies, RulesAreResumable, TicksAreResumable, ConditionsAreResumable}
+use Rattle.pi_resume_spec.proofs.ResumedLemmas.{AtAlt, in_front, in_behind, Begun, begun, at-alt, AtThen, through, at-then, at-one, leads-rest}
 
 -- ---- ways with a number in front
 
@@ -169,14 +169,14 @@ catches_are_resumable s handler hs hh v rest left a = catch-cases s handler v re
 
 -- an answer of what is chosen by a condition, and where what follows the condition leads then
 data AtChosen {X A : Type 0} (t : Trace X) (f : X → Ways A) (u : Ways A) (v : Way A) (rest : Ways A) : Type 0 where
-  where_true : (x : X) → At (f x) v rest →
+  where_true : (x : X) (r : Trace X) → At t x r → At (f x) v rest →
       ((g : X → Following A) (other : Following A) (path : List ℕ) (y : A) (left : List ℕ) (later : Ways A) → Leads (g x) path y left later → Leads (on_first t g other) path y left later) → AtChosen t f u v rest
   where_false : At u v rest →
       ((g : X → Following A) (other : Following A) (path : List ℕ) (y : A) (left : List ℕ) (later : Ways A) → Leads other path y left later → Leads (on_first t g other) path y left later) → AtChosen t f u v rest
 
 note-chosen : {X A : Type 0} {t : Trace X} {f : X → Ways A} {u : Ways A} {v : Way A} {rest : Ways A} (n : Note) → AtChosen t f u v rest → AtChosen (note n t) f u v rest
 unfolding on_first
-note-chosen {t = t} n (where_true x a lead) = where_true x a (λ g other path y left later h. leads-passed n (on_first t g other) path y left later (lead g other path y left later h))
+note-chosen {t = t} n (where_true x r m a lead) = where_true x r (past_note n m) a (λ g other path y left later h. leads-passed n (on_first t g other) path y left later (lead g other path y left later h))
 note-chosen {t = t} n (where_false a lead) = where_false a (λ g other path y left later h. leads-passed n (on_first t g other) path y left later (lead g other path y left later h))
 
 at-chosen : {X A : Type 0} (t : Trace X) (f : X → Ways A) (u : Ways A) (v : Way A) (rest : Ways A) → At (chosen t f u) v rest → AtChosen t f u v rest
@@ -187,7 +187,7 @@ at-chosen (end (Abort ball)) f u v rest a = absurd (begun a)
 at-chosen (end (Miss c)) f u v rest a = absurd (begun a)
 at-chosen (end Deep) f u v rest a = absurd (begun a)
 at-chosen (note n t) f u v rest a = note-chosen n (at-chosen t f u v rest (begun a))
-at-chosen (ans x t) f u v rest a = where_true x a (λ g other path y left later h. h)
+at-chosen (ans x t) f u v rest a = where_true x t (at_first x t) a (λ g other path y left later h. h)
 
 -- the rules behind one that applies
 rules_behind : {X A : Type 0} (k : ℕ) (r : RuleSearch X A) (rs : List (RuleSearch X A)) (x : X) (v : Way A) (rest : Ways A) (left : List ℕ) (c : Bool) → r.committed ≡ c → At (rest_unless c (rules_ways (suc k) rs)) v rest →
@@ -232,12 +232,12 @@ applied-cases : {X A : Type 0} (k : ℕ) (r : RuleSearch X A) (rs : List (RuleSe
 applied-cases k r rs x v rest left hb (in_front q a e) lead later = rule_here k r rs x v rest q left hb (at-numbered k (r.body x).ways v q a) e lead
 applied-cases k r rs x v rest left hb (in_behind a) lead later = rules_behind k r rs x v rest left r.committed refl a lead later
 
-rule-cases : {X A : Type 0} (k : ℕ) (r : RuleSearch X A) (rs : List (RuleSearch X A)) (v : Way A) (rest : Ways A) (left : List ℕ) → ((x : X) → IsResumable (r.body x)) →
+rule-cases : {X A : Type 0} (k : ℕ) (r : RuleSearch X A) (rs : List (RuleSearch X A)) (v : Way A) (rest : Ways A) (left : List ℕ) → ((x : X) (q : Trace X) → At r.applies x q → IsResumable (r.body x)) →
     AtChosen r.applies (λ x. alt (numbered k (r.body x).ways) (rest_unless r.committed (rules_ways (suc k) rs))) (rules_ways (suc k) rs) v rest →
     (At (rules_ways (suc k) rs) v rest → TakenAt (rules_taken (suc k) rs) (suc k) v rest left) → TakenAt (rules_taken k (r ∷ rs)) k v rest left
 unfolding rules_taken
-rule-cases k r rs v rest left hb (where_true x a lead) later =
-    applied-cases k r rs x v rest left (hb x) (at-alt (numbered k (r.body x).ways) (rest_unless r.committed (rules_ways (suc k) rs)) v rest a) lead later
+rule-cases k r rs v rest left hb (where_true x q m a lead) later =
+    applied-cases k r rs x v rest left (hb x q m) (at-alt (numbered k (r.body x).ways) (rest_unless r.committed (rules_ways (suc k) rs)) v rest a) lead later
 rule-cases k r rs v rest left hb (where_false a lead) later =
     let h : TakenAt (rules_taken (suc k) rs) (suc k) v rest left = later a in
     record {
@@ -247,17 +247,30 @@ rule-cases k r rs v rest left hb (where_false a lead) later =
       leads = lead (λ z. bad_if r.committed (rules_taken (suc k) rs h.place (h.path ++ left))) (rules_taken (suc k) rs h.place (h.path ++ left)) v.path v.answer left rest h.leads;
     }
 
-rules-taken : {X A : Type 0} (k : ℕ) (rs : List (RuleSearch X A)) (v : Way A) (rest : Ways A) (left : List ℕ) → AllBodies rs → At (rules_ways k rs) v rest → TakenAt (rules_taken k rs) k v rest left
-unfolding rules_ways AllBodies Begun
+-- the bodies of rules resume from each answer of their conditions
+unfoldable pub BodiesResume : {X A : Type 0} → List (RuleSearch X A) → Type 0
+BodiesResume [] = Unit {0}
+BodiesResume {X = X} (r ∷ rs) = ((x : X) (q : Trace X) → At r.applies x q → IsResumable (r.body x)) × BodiesResume rs
+
+rules-taken : {X A : Type 0} (k : ℕ) (rs : List (RuleSearch X A)) (v : Way A) (rest : Ways A) (left : List ℕ) → BodiesResume rs → At (rules_ways k rs) v rest → TakenAt (rules_taken k rs) k v rest left
+unfolding rules_ways BodiesResume Begun
 rules-taken k [] v rest left all a = absurd (begun a)
 rules-taken k (r ∷ rs) v rest left all a =
     rule-cases k r rs v rest left all.0 (at-chosen r.applies (λ x. alt (numbered k (r.body x).ways) (rest_unless r.committed (rules_ways (suc k) rs))) (rules_ways (suc k) rs) v rest a) (rules-taken (suc k) rs v rest left all.1)
 
-pub rules_are_resumable : {X A : Type 0} → RulesAreResumable X A
-rules_are_resumable rs all v rest left a =
+pub rules-resume : {X A : Type 0} (rs : List (RuleSearch X A)) → BodiesResume rs → IsResumable (rules_search rs)
+rules-resume rs all v rest left a =
     let h : TakenAt (rules_taken 1 rs) 1 v rest left = rules-taken 1 rs v rest left all a in
     let is : v.path ≡ suc h.place ∷ h.path = h.is ∙ ap (λ (n : ℕ). n ∷ h.path) (omega arith) in
     subst (λ (p : List ℕ). Leads ((rules_search rs).follows (p ++ left)) v.path v.answer left rest) (sym is) h.leads
+
+any-resume : {X A : Type 0} (rs : List (RuleSearch X A)) → AllBodies rs → BodiesResume rs
+unfolding AllBodies BodiesResume
+any-resume [] all = tt
+any-resume (r ∷ rs) all = (λ x q m. all.0 x, any-resume rs all.1)
+
+pub rules_are_resumable : {X A : Type 0} → RulesAreResumable X A
+rules_are_resumable rs all = rules-resume rs (any-resume rs all)
 
 pub ticks_are_resumable : {A : Type 0} → TicksAreResumable A
 unfolding Begun Leads
@@ -265,12 +278,16 @@ ticks_are_resumable s hs v rest left a = hs v rest left (begun a)
 
 -- ---- conditions
 
-condition-cases : {X A : Type 0} (t : Trace X) (f : X → Search A) (other : Search A) (v : Way A) (rest : Ways A) (left : List ℕ) → ((x : X) → IsResumable (f x)) → IsResumable other →
+condition-cases : {X A : Type 0} (t : Trace X) (f : X → Search A) (other : Search A) (v : Way A) (rest : Ways A) (left : List ℕ) → ((x : X) (q : Trace X) → At t x q → IsResumable (f x)) → IsResumable other →
     AtChosen t (λ x. (f x).ways) other.ways v rest → Leads ((chosen_search t f other).follows (v.path ++ left)) v.path v.answer left rest
-condition-cases t f other v rest left hf ho (where_true x a lead) =
-    lead (λ z. (f z).follows (v.path ++ left)) (other.follows (v.path ++ left)) v.path v.answer left rest (hf x v rest left a)
+condition-cases t f other v rest left hf ho (where_true x q m a lead) =
+    lead (λ z. (f z).follows (v.path ++ left)) (other.follows (v.path ++ left)) v.path v.answer left rest (hf x q m v rest left a)
 condition-cases t f other v rest left hf ho (where_false a lead) =
     lead (λ z. (f z).follows (v.path ++ left)) (other.follows (v.path ++ left)) v.path v.answer left rest (ho v rest left a)
 
+pub conditions-resume : {X A : Type 0} (t : Trace X) (f : X → Search A) (other : Search A) → ((x : X) (q : Trace X) → At t x q → IsResumable (f x)) → IsResumable other →
+    IsResumable (chosen_search t f other)
+conditions-resume t f other hf ho v rest left a = condition-cases t f other v rest left hf ho (at-chosen t (λ x. (f x).ways) other.ways v rest a)
+
 pub conditions_are_resumable : {X A : Type 0} → ConditionsAreResumable X A
-conditions_are_resumable t f other hf ho v rest left a = condition-cases t f other v rest left hf ho (at-chosen t (λ x. (f x).ways) other.ways v rest a)
+conditions_are_resumable t f other hf ho = conditions-resume t f other (λ x q m. hf x) ho

@@ -4,7 +4,7 @@ use Rattle.std.specs.Prelude.{◌≡◌, ℕ, zero, suc, Bool, true, false, List
 use Rattle.pi_terms.specs.Tree.{Tree}
 use Rattle.pi_meaning.specs.Traces.Trace.{Trace, end, note, ans, End, Done, Raise, Miss, Deep, Note, Tick, Load, Out, done, one, alt, then}
 use Rattle.pi_meaning.specs.Traces.Control.{caught, chosen}
-use Rattle.pi_solve_spec.specs.Ways.{Way, Ways, here, behind, numbered, followed_by, choice_from, choice, catching}
+use Rattle.pi_resume_spec.specs.Ways.{Way, Ways, here, behind, numbered, followed_by, choice_from, choice, catching}
 
 -- What a goal does that follows numbers: notes on the way; then the answer that it leads to, with the choices that were made in the goal, the numbers that are left,
 -- and what stands behind that answer in the goal; or an end before it, which is one of a run that isn't known to go on, or a bad path.

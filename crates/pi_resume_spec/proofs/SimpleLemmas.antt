@@ -2,11 +2,11 @@
 use Rattle.std.specs.Prelude.{◌≡◌, ◌≤◌, ℕ, List, ◌++◌, length}
 use Rattle.std.proofs.Common.{arith, sym, ap, inl, inr}
 use Rattle.pi_meaning.specs.Traces.Trace.{Trace, end, note, ans, alt, then, answers}
-use Rattle.pi_solve_spec.specs.Ways.{Way, Ways, straight, here}
-use Rattle.pi_solve_spec.specs.Resumed.{to_answer, At, Leads}
-use Rattle.pi_solve_spec.specs.PathLaws.{SimpleIsResumable}
-use Rattle.pi_solve_spec.proofs.ResumedLemmas.{Begun, begun}
-use Rattle.pi_solve_spec.proofs.ChoiceLemmas.{leads-passed}
+use Rattle.pi_resume_spec.specs.Ways.{Way, Ways, straight, here}
+use Rattle.pi_resume_spec.specs.Resumed.{to_answer, At, Leads}
+use Rattle.pi_resume_spec.specs.PathLaws.{SimpleIsResumable}
+use Rattle.pi_resume_spec.proofs.ResumedLemmas.{Begun, begun}
+use Rattle.pi_resume_spec.proofs.ChoiceLemmas.{leads-passed}
 
 none-there : {A : Type 0} (t : Trace A) (w : Way A) (rest : Ways A) → length (answers t) ≤ 0 → At (then t (λ x. here x)) w rest → ⊥
 unfolding answers then alt Begun

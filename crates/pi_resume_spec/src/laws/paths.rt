@@ -1,5 +1,5 @@
 //! Laws of paths and of resumed runs.
-ghost use Rattle.pi_solve_spec.specs.PathLaws.{PlainOfNumbered, PlainOfSequence, PlainOfChoice, PlainOfCatch, PlainOfRules, StraightIsApart, SequencesAreApart, ChoicesAreApart, CatchesAreApart, RulesAreApart, ConditionsAreApart, TicksAreApart, NoTwoPathsAreOne, SimpleIsResumable, SequencesAreResumable, ChoicesAreResumable, CatchesAreResumable, RulesAreResumable, TicksAreResumable, ConditionsAreResumable};
+ghost use Rattle.pi_resume_spec.specs.PathLaws.{PlainOfNumbered, PlainOfSequence, PlainOfChoice, PlainOfCatch, PlainOfRules, StraightIsApart, SequencesAreApart, ChoicesAreApart, CatchesAreApart, RulesAreApart, ConditionsAreApart, TicksAreApart, NoTwoPathsAreOne, SimpleIsResumable, SequencesAreResumable, ChoicesAreResumable, CatchesAreResumable, RulesAreResumable, TicksAreResumable, ConditionsAreResumable};
 
 /// Without its paths a trace is what it was, however goals are put together.
 pub fn paths_add_nothing<A, B>()

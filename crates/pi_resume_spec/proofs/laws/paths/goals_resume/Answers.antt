@@ -1,7 +1,7 @@
-use Rattle.pi_solve_spec.proofs.SimpleLemmas.{simple_is_resumable}
-use Rattle.pi_solve_spec.proofs.ResumedLemmas.{sequences_are_resumable}
-use Rattle.pi_solve_spec.proofs.ChoiceLemmas.{choices_are_resumable, catches_are_resumable, rules_are_resumable, ticks_are_resumable, conditions_are_resumable}
-use Rattle.pi_solve_spec.proofs.laws.paths.goals_resume.Goals as goal
+use Rattle.pi_resume_spec.proofs.SimpleLemmas.{simple_is_resumable}
+use Rattle.pi_resume_spec.proofs.ResumedLemmas.{sequences_are_resumable}
+use Rattle.pi_resume_spec.proofs.ChoiceLemmas.{choices_are_resumable, catches_are_resumable, rules_are_resumable, ticks_are_resumable, conditions_are_resumable}
+use Rattle.pi_resume_spec.proofs.laws.paths.goals_resume.Goals as goal
 
 pub returns-clause-simple : goal.returns-clause-simple
 returns-clause-simple g c = simple_is_resumable

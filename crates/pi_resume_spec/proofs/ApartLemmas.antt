@@ -5,9 +5,9 @@ use Rattle.pi_terms.specs.Tree.{Tree}
 use Rattle.pi_meaning.specs.Traces.Trace.{Trace, end, note, ans, Done, Raise, Abort, Miss, Deep, one, alt, then, answers}
 use Rattle.pi_meaning.specs.Traces.Control.{caught, chosen}
 use Rattle.pi_meaning.proofs.Traces.AnswerLemmas.{EachAnswer, each-map, each-alt, each-then}
-use Rattle.pi_solve_spec.specs.Ways.{Way, Ways, straight, without_choices, choosing, numbered, behind, followed_by, choice_from, choice, catching, Diverge, Apart}
-use Rattle.pi_solve_spec.specs.Resumed.{RuleSearch, rest_unless, rules_ways, rules_search, chosen_search}
-use Rattle.pi_solve_spec.specs.PathLaws.{StraightIsApart, SequencesAreApart, AllApart, ChoicesAreApart, CatchesAreApart, AllBodiesApart, RulesAreApart, ConditionsAreApart, TicksAreApart, NoTwoPathsAreOne}
+use Rattle.pi_resume_spec.specs.Ways.{Way, Ways, straight, without_choices, choosing, numbered, behind, followed_by, choice_from, choice, catching, Diverge, Apart}
+use Rattle.pi_resume_spec.specs.Resumed.{Search, RuleSearch, rest_unless, rules_ways, rules_search, chosen_search}
+use Rattle.pi_resume_spec.specs.PathLaws.{StraightIsApart, SequencesAreApart, AllApart, ChoicesAreApart, CatchesAreApart, AllBodiesApart, RulesAreApart, ConditionsAreApart, TicksAreApart, NoTwoPathsAreOne}
 
 -- ---- paths
 
@@ -144,16 +144,20 @@ onward-from f v w x h = each-renamed (From (behind v.path x)) (behind w.path) (f
 onward-all : {A B : Type 0} (f : A → Ways B) (v : Way A) (t : Ways A) (x : Way B) → EachAnswer (From v) t → EachAnswer (From (behind v.path x)) (followed_by t f)
 onward-all f v t x h = each-then (From v) (From (behind v.path x)) t (onward f) h (λ w d. onward-from f v w x d)
 
-parts-then : {A B : Type 0} (f : A → Ways B) → ((x : A) → Parts (f x)) → (t : Ways A) → Parts t → Parts (followed_by t f)
-unfolding Parts then
-parts-then f all (end e) p = tt
-parts-then f all (note n t) p = parts-then f all t p
-parts-then f all (ans w t) p =
-    parts-alt (onward f w) (followed_by t f) (parts-renamed (behind w.path) (λ x y h. diverge-after w.path x.path y.path h) (f w.answer) (all w.answer)) (parts-then f all t p.1)
+parts-then : {A B : Type 0} (P : A → Type 0) (f : A → Ways B) → ((x : A) → P x → Parts (f x)) → (t : Ways A) → EachAnswer (λ w. P w.answer) t → Parts t → Parts (followed_by t f)
+unfolding Parts then EachAnswer
+parts-then P f all (end e) is p = tt
+parts-then P f all (note n t) is p = parts-then P f all t is p
+parts-then P f all (ans w t) is p =
+    parts-alt (onward f w) (followed_by t f) (parts-renamed (behind w.path) (λ x y h. diverge-after w.path x.path y.path h) (f w.answer) (all w.answer is.0)) (parts-then P f all t is.1 p.1)
     (each-renamed (λ y. EachAnswer (From y) (followed_by t f)) (behind w.path) (f w.answer) (each-any (λ x. EachAnswer (From (behind w.path x)) (followed_by t f)) (λ x. onward-all f w t x p.0) (f w.answer)))
 
+-- where what follows leads apart from each answer that there is
+pub sequences-apart : {A B : Type 0} (P : A → Type 0) (t : Ways A) (f : A → Ways B) → EachAnswer (λ w. P w.answer) t → Apart t → ((x : A) → P x → Apart (f x)) → Apart (followed_by t f)
+sequences-apart P t f is a all = apart-of (followed_by t f) (parts-then P f (λ x h. parts-of (f x) (all x h)) t is (parts-of t a))
+
 pub sequences_are_apart : {A B : Type 0} → SequencesAreApart A B
-sequences_are_apart t f a all = apart-of (followed_by t f) (parts-then f (λ x. parts-of (f x) (all x)) t (parts-of t a))
+sequences_are_apart t f a all = sequences-apart (λ x. Unit {0}) t f (each-any (λ w. Unit {0}) (λ w. tt) t) a (λ x is. all x)
 
 -- ---- a choice
 
@@ -212,15 +216,15 @@ each-chosen P (end Deep) f u a b = tt
 each-chosen P (note n t) f u a b = each-chosen P t f u a b
 each-chosen P (ans x t) f u a b = a x
 
-parts-chosen : {X A : Type 0} (t : Trace X) (f : X → Ways A) (u : Ways A) → ((x : X) → Parts (f x)) → Parts u → Parts (chosen t f u)
-unfolding Parts chosen
-parts-chosen (end Done) f u a b = b
-parts-chosen (end (Raise ball)) f u a b = tt
-parts-chosen (end (Abort ball)) f u a b = tt
-parts-chosen (end (Miss c)) f u a b = tt
-parts-chosen (end Deep) f u a b = tt
-parts-chosen (note n t) f u a b = parts-chosen t f u a b
-parts-chosen (ans x t) f u a b = a x
+parts-chosen : {X A : Type 0} (P : X → Type 0) (t : Trace X) (f : X → Ways A) (u : Ways A) → EachAnswer P t → ((x : X) → P x → Parts (f x)) → Parts u → Parts (chosen t f u)
+unfolding Parts chosen EachAnswer
+parts-chosen P (end Done) f u is a b = b
+parts-chosen P (end (Raise ball)) f u is a b = tt
+parts-chosen P (end (Abort ball)) f u is a b = tt
+parts-chosen P (end (Miss c)) f u is a b = tt
+parts-chosen P (end Deep) f u is a b = tt
+parts-chosen P (note n t) f u is a b = parts-chosen P t f u is a b
+parts-chosen P (ans x t) f u is a b = a x is.0
 
 each-unless : {A : Type 0} (P : Way A → Type 0) (c : Bool) (t : Ways A) → EachAnswer P t → EachAnswer P (rest_unless c t)
 unfolding EachAnswer
@@ -242,23 +246,40 @@ rules-each j k l v (r ∷ rs) =
     (λ x. each-alt (From (choosing j v)) (numbered k (r.body x).ways) (rest_unless r.committed (rules_ways (suc k) rs)) (numbered-from j k (λ e. absurd (omega arith)) v (r.body x).ways)
     (each-unless (From (choosing j v)) r.committed (rules_ways (suc k) rs) rest)) rest
 
-rules-parts : {X A : Type 0} (k : ℕ) (rs : List (RuleSearch X A)) → AllBodiesApart rs → Parts (rules_ways k rs)
-unfolding rules_ways AllBodiesApart Parts
-rules-parts k [] all = tt
-rules-parts k (r ∷ rs) all =
-    let rest = rules-parts (suc k) rs all.1 in
-    parts-chosen r.applies (λ x. alt (numbered k (r.body x).ways) (rest_unless r.committed (rules_ways (suc k) rs))) (rules_ways (suc k) rs)
-    (λ x. parts-alt (numbered k (r.body x).ways) (rest_unless r.committed (rules_ways (suc k) rs)) (parts-numbered k (r.body x).ways (parts-of (r.body x).ways (all.0 x)))
+-- the bodies of rules lead apart from each answer of their conditions
+unfoldable pub BodiesApart : {X A : Type 0} → (X → Type 0) → List (RuleSearch X A) → Type 0
+BodiesApart P [] = Unit {0}
+BodiesApart {X = X} P (r ∷ rs) = (EachAnswer P r.applies × ((x : X) → P x → Apart (r.body x).ways)) × BodiesApart P rs
+
+rules-parts : {X A : Type 0} (P : X → Type 0) (k : ℕ) (rs : List (RuleSearch X A)) → BodiesApart P rs → Parts (rules_ways k rs)
+unfolding rules_ways BodiesApart Parts
+rules-parts P k [] all = tt
+rules-parts P k (r ∷ rs) all =
+    let rest = rules-parts P (suc k) rs all.1 in
+    parts-chosen P r.applies (λ x. alt (numbered k (r.body x).ways) (rest_unless r.committed (rules_ways (suc k) rs))) (rules_ways (suc k) rs) all.0.0
+    (λ x h. parts-alt (numbered k (r.body x).ways) (rest_unless r.committed (rules_ways (suc k) rs)) (parts-numbered k (r.body x).ways (parts-of (r.body x).ways (all.0.1 x h)))
     (parts-unless r.committed (rules_ways (suc k) rs) rest)
     (each-renamed (λ y. EachAnswer (From y) (rest_unless r.committed (rules_ways (suc k) rs))) (choosing k) (r.body x).ways
     (each-any (λ v. EachAnswer (From (choosing k v)) (rest_unless r.committed (rules_ways (suc k) rs)))
     (λ v. each-unless (From (choosing k v)) r.committed (rules_ways (suc k) rs) (rules-each k (suc k) (omega arith) v rs)) (r.body x).ways))) rest
 
+pub rules-apart : {X A : Type 0} (P : X → Type 0) (rs : List (RuleSearch X A)) → BodiesApart P rs → Apart (rules_search rs).ways
+rules-apart P rs all = apart-of (rules_search rs).ways (rules-parts P 1 rs all)
+
+any-bodies : {X A : Type 0} (rs : List (RuleSearch X A)) → AllBodiesApart rs → BodiesApart (λ x. Unit {0}) rs
+unfolding AllBodiesApart BodiesApart
+any-bodies [] all = tt
+any-bodies (r ∷ rs) all = ((each-any (λ x. Unit {0}) (λ x. tt) r.applies, λ x h. all.0 x), any-bodies rs all.1)
+
 pub rules_are_apart : {X A : Type 0} → RulesAreApart X A
-rules_are_apart rs all = apart-of (rules_search rs).ways (rules-parts 1 rs all)
+rules_are_apart rs all = rules-apart (λ x. Unit {0}) rs (any-bodies rs all)
+
+pub conditions-apart : {X A : Type 0} (P : X → Type 0) (t : Trace X) (f : X → Search A) (other : Search A) → EachAnswer P t → ((x : X) → P x → Apart (f x).ways) → Apart other.ways →
+    Apart (chosen_search t f other).ways
+conditions-apart P t f other is all rest = apart-of (chosen_search t f other).ways (parts-chosen P t (λ x. (f x).ways) other.ways is (λ x h. parts-of (f x).ways (all x h)) (parts-of other.ways rest))
 
 pub conditions_are_apart : {X A : Type 0} → ConditionsAreApart X A
-conditions_are_apart t f other all rest = apart-of (chosen_search t f other).ways (parts-chosen t (λ x. (f x).ways) other.ways (λ x. parts-of (f x).ways (all x)) (parts-of other.ways rest))
+conditions_are_apart t f other all rest = conditions-apart (λ x. Unit {0}) t f other (each-any (λ x. Unit {0}) (λ x. tt) t) (λ x is. all x) rest
 
 pub ticks_are_apart : {A : Type 0} → TicksAreApart A
 unfolding answers
