@@ -29,7 +29,7 @@ use Rattle.pi_engine_code.specs.Laid.{IsNotBuiltIn}
 use Rattle.pi_engine_code.specs.Code.{Tables, arguments, node_kind}
 use Rattle.pi_meaning.specs.Machine.Configuration.{Frame, Called, Config, behind, strict, value_level, Entry as EntryData}
 use Rattle.pi_meaning.specs.Machine.Shape.{open_level}
-use Rattle.pi_meaning.specs.Machine.Step.{call_step, try_rules, goal_step, back_to}
+use Rattle.pi_meaning.specs.Machine.Step.{call_step, try_rules, goal_step, back_to, with_rest}
 use Rattle.pi_engine_stands.specs.Here.{block_end, AreReadable, HoldsArguments, GoesOn, gives}
 use Rattle.pi_engine_stands.specs.Stands.{World, tables_in, steps_of, block_at, entries_of, now_here, HasNumber, IsCodeOf, KindIs, apply_kind, StackStands, Stands, StandsGoing, GoingIs}
 use Rattle.pi_engine_stands.specs.Evaluates.{with_blocks, operand_trees, EvaluatesAll}
@@ -161,7 +161,7 @@ pub record ApplyRuns {M : Type 0} (w after : World M) (q base : ℕ) (predicate 
   pub called : Called
   pub level : EntryData
   pub made : Made after q base 0 called pred.clauses [] (level ∷ es) predicate.first
-  pub step : (now : Now) (end : World M) → Stands end now (try_rules called pred.clauses (back_to [] after.store.now.state []) (level ∷ es)) → StandsAfter end now (goal_step view w.loaded.preds g gs e w.store.now.state k es)
+  pub step : (now : Now) (end : World M) → Stands end now (try_rules called pred.clauses (back_to [] after.store.now.state []) (level ∷ es)) → StandsAfter end now (goal_step view w.loaded.preds g e w.store.now.state (with_rest gs k es))
 
 pub apply-runs : {M : Type 0} (w : World M) (v u : StoreView M) (mark : M) (a : ArenasView M) (fs : List Point) (d : BlocksView) (rs : List Ref) (p : Point) (s : Step) (q operands into n : ℕ) (predicate : Predicate) (view : View) (g : GoalTree) (gs : GoalTrees) (e : Places) (k : List Frame) (es : List EntryData) →
     Applies w g q operands into predicate → slice_get (steps_of w.loaded) p.place ≡ Some s → (stands : StandsGoing w p (goal g gs) e k es) → AreReadable (tables_in w.loaded) (block_of w p g gs e k es stands) operands predicate.arity →
@@ -204,7 +204,7 @@ apply-runs w v u mark a fs d rs p s q operands into n predicate view g gs e k es
           applies.it.is_pred applies.it.is_predicate applies.it.is_function applies.it.not_built many long own.within holds;
       step = λ now end ends.
           subst (StandsAfter end now)
-          (sym (ap (λ h. goal_step view w.loaded.preds h gs e w.store.now.state k es) applies.goal_is
+          (sym (ap (λ h. goal_step view w.loaded.preds h e w.store.now.state (with_rest gs k es)) applies.goal_is
           ∙ apply-comes-to view w.loaded.preds pred.name args into pred gs e w.store.now.state k es (ap (λ n. is_given true pred.name n) (count ∙ applies.it.arity) ∙ applies.it.not_given)
           (ap (λ m. find_pred true pred.name m w.loaded.preds) (count ∙ applies.it.arity) ∙ found-by-number true w.loaded.preds q pred stands.entries.code.apart applies.it.is_pred applies.it.is_function)))
           (stands-called end now pred.quiet _
@@ -215,7 +215,7 @@ apply-runs w v u mark a fs d rs p s q operands into n predicate view g gs e k es
 -- what the step of such a goal is
 pub apply-form : {M : Type 0} (w : World M) (q operands into : ℕ) (predicate : Predicate) (view : View) (g : GoalTree) (gs : GoalTrees) (e : Places) (k : List Frame) (es : List EntryData) → (applies : Applies w g q operands into predicate) →
     IsCodeOf w.loaded.code (tables_in w.loaded) w.store.names w.loaded.preds → operands + predicate.arity ≤ length (tables_in w.loaded).operands →
-    (x : Config) × (goal_step view w.loaded.preds g gs e w.store.now.state k es ≡ call_step predicate.is_quiet x)
+    (x : Config) × (goal_step view w.loaded.preds g e w.store.now.state (with_rest gs k es) ≡ call_step predicate.is_quiet x)
 apply-form w q operands into predicate view g gs e k es applies code within =
     let T : Tables = tables_in w.loaded in
     let args : List Tree = operand_trees T operands predicate.arity in
@@ -223,7 +223,7 @@ apply-form w q operands into predicate view g gs e k es applies code within =
     let next : Config = try_rules (record { function = true; args = all.trees }) applies.it.pred.clauses (back_to [] all.state []) (strict (value_level (comp applies.it.pred.name all.trees) into) (back_to all.slots all.state (behind gs k)) ∷ es) in
     let count : tree_count all.trees ≡ predicate.arity = all-count T operands predicate.arity e w.store.now.state within in (
       next,
-      ap (λ h. goal_step view w.loaded.preds h gs e w.store.now.state k es) applies.goal_is
+      ap (λ h. goal_step view w.loaded.preds h e w.store.now.state (with_rest gs k es)) applies.goal_is
           ∙ apply-comes-to view w.loaded.preds applies.it.pred.name args into applies.it.pred gs e w.store.now.state k es (ap (λ n. is_given true applies.it.pred.name n) (count ∙ applies.it.arity) ∙ applies.it.not_given)
           (ap (λ m. find_pred true applies.it.pred.name m w.loaded.preds) (count ∙ applies.it.arity) ∙ found-by-number true w.loaded.preds q applies.it.pred code.apart applies.it.is_pred applies.it.is_function)
           ∙ ap (λ b. call_step b next) (sym applies.it.quiet),

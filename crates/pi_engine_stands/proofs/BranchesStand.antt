@@ -21,7 +21,7 @@ use Rattle.pi_engine_code.specs.Code.{Tables, tables_of, step_cell, node_kind, S
 use Rattle.pi_engine_arenas.specs.Arenas.{ArenasView, entry_at, newest, slots_kept_by, with_kind, new_entry, pushed, DropsNewest}
 use Rattle.pi_engine_arenas.specs.declared.arenas.Entry.{Entry}
 use Rattle.pi_meaning.specs.Machine.Configuration.{Frame, behind, Entry as EntryData, choice, branches_left, config, Back as BackData}
-use Rattle.pi_meaning.specs.Machine.Step.{branch, goal_step, run_goal, back_to}
+use Rattle.pi_meaning.specs.Machine.Step.{branch, goal_step, run_goal, back_to, with_rest}
 use Rattle.pi_meaning.specs.Machine.Shape.{open_level}
 use Rattle.pi_engine_stands.specs.Here.{Block, IsStepOf, EachLast, SayLast, IsHere, last_here, AreBranches, Holds, LeftBehind}
 use Rattle.pi_engine_stands.specs.Stands.{World, tables_in, steps_of, entries_of, now_here, back_here, Agrees, StandsBehind, KindIs, branches_kind, EntryIs, StackIs, StackStands, Stands, StandsGoing, going_now, failing_now, GoingIs}
@@ -284,17 +284,17 @@ none-of no_goals h = refl
 none-of (goal g hs) h = absurd (omega (arith, h))
 
 pub no-branches : {M : Type 0} (w : World M) (p : Point) (s : Step) (count : ℕ) (view : View) (g : GoalTree) (gs : GoalTrees) (e : Places) (k : List Frame) (es : List EntryData) → s.node ≡ Node.Alt count → count ≡ 0 →
-    slice_get (steps_of w.loaded) p.place ≡ Some s → StandsGoing w p (goal g gs) e k es → StandsAfter w Now.Failing (goal_step view w.loaded.preds g gs e w.store.now.state k es)
+    slice_get (steps_of w.loaded) p.place ≡ Some s → StandsGoing w p (goal g gs) e k es → StandsAfter w Now.Failing (goal_step view w.loaded.preds g e w.store.now.state (with_rest gs k es))
 unfolding goal_step
 no-branches w p s count view g gs e k es node none at stands =
     let it : _ = node-is w p s count g gs e k es node at stands in
-    subst (λ h. StandsAfter w Now.Failing (goal_step view w.loaded.preds h gs e w.store.now.state k es)) (sym (it.1 ∙ ap alternatives (none-of it.0 (it.2 ∙ none))))
+    subst (λ h. StandsAfter w Now.Failing (goal_step view w.loaded.preds h e w.store.now.state (with_rest gs k es))) (sym (it.1 ∙ ap alternatives (none-of it.0 (it.2 ∙ none))))
     (record { entries = stands.entries; runs = failing_now })
 
 -- one
 one-in : {M : Type 0} (w : World M) (p : Point) (s : Step) (fs : List Point) (n count : ℕ) (view : View) (hs gs : GoalTrees) (e : Places) (k : List Frame) (es : List EntryData) → count_goals hs ≡ count → count ≡ 1 → Pushed w p s fs n →
     StandsGoing w p (goal (alternatives hs) gs) e k es →
-    StandsAfter (with_new_frames w fs) (Now.Going (record { place = p.place + 1; count = 1; base = p.base; frame = n })) (goal_step view w.loaded.preds (alternatives hs) gs e w.store.now.state k es)
+    StandsAfter (with_new_frames w fs) (Now.Going (record { place = p.place + 1; count = 1; base = p.base; frame = n })) (goal_step view w.loaded.preds (alternatives hs) e w.store.now.state (with_rest gs k es))
 unfolding goal_step count_goals
 one-in w p s fs n count view no_goals gs e k es many one pushed stands = absurd (omega (arith, many, one))
 one-in w p s fs n count view (goal g no_goals) gs e k es many one pushed stands =
@@ -304,10 +304,10 @@ one-in w p s fs n count view (goal g (goal h hs)) gs e k es many one pushed stan
 
 pub one-branch : {M : Type 0} (w : World M) (p : Point) (s : Step) (fs : List Point) (n count : ℕ) (view : View) (g : GoalTree) (gs : GoalTrees) (e : Places) (k : List Frame) (es : List EntryData) → s.node ≡ Node.Alt count → count ≡ 1 →
     Pushed w p s fs n → StandsGoing w p (goal g gs) e k es →
-    StandsAfter (with_new_frames w fs) (Now.Going (record { place = p.place + 1; count = 1; base = p.base; frame = n })) (goal_step view w.loaded.preds g gs e w.store.now.state k es)
+    StandsAfter (with_new_frames w fs) (Now.Going (record { place = p.place + 1; count = 1; base = p.base; frame = n })) (goal_step view w.loaded.preds g e w.store.now.state (with_rest gs k es))
 one-branch w p s fs n count view g gs e k es node one pushed stands =
     let it : _ = node-is w p s count g gs e k es node pushed.0 stands in
-    subst (λ h. StandsAfter (with_new_frames w fs) (Now.Going (record { place = p.place + 1; count = 1; base = p.base; frame = n })) (goal_step view w.loaded.preds h gs e w.store.now.state k es)) (sym it.1)
+    subst (λ h. StandsAfter (with_new_frames w fs) (Now.Going (record { place = p.place + 1; count = 1; base = p.base; frame = n })) (goal_step view w.loaded.preds h e w.store.now.state (with_rest gs k es))) (sym it.1)
     (one-in w p s fs n count view it.0 gs e k es it.2 one pushed (subst (λ r. StandsGoing w p (goal r gs) e k es) it.1 stands))
 
 -- more than one
@@ -315,7 +315,7 @@ more-of : {M : Type 0} (w : World M) (v : StoreView M) (mark : M) (p : Point) (s
     Pushed w p s fs n → Marks w.order w.store v mark → ((g : GoalTree) (b : Block) (last : Bool) → IsHere (tables_in w.loaded) (steps_of w.loaded) b (p.place + 1) g last → next ≡ p.place + 1 + nodes g) →
     StandsGoing w p (goal (alternatives hs) gs) e k es →
     StandsAfter (with_entry (with_new_frames w fs) v mark (length w.arenas.blocks.slots) p.base n (Kind.Branches next (count - 1))) (Now.Going (record { place = p.place + 1; count = 1; base = p.base; frame = n }))
-    (goal_step view w.loaded.preds (alternatives hs) gs e w.store.now.state k es)
+    (goal_step view w.loaded.preds (alternatives hs) e w.store.now.state (with_rest gs k es))
 unfolding goal_step count_goals
 more-of w v mark p s fs n count next view no_goals gs e k es many some pushed marks finds stands = absurd (omega (arith, many, some))
 more-of w v mark p s fs n count next view (goal g no_goals) gs e k es many some pushed marks finds stands = absurd (omega (arith, many, some))
@@ -328,13 +328,13 @@ pub some-branches : {M : Type 0} (w : World M) (v : StoreView M) (mark : M) (p :
     w.loaded.code ≡ code → Pushed w p s fs n → Marks w.order w.store v mark →
     ((terms : ℕ → Option Tree) (h : GoalTree) → StandsAt (tables_of terms code) code.steps.items (p.place + 1) h → next ≡ p.place + 1 + nodes h) → StandsGoing w p (goal g gs) e k es →
     StandsAfter (with_entry (with_new_frames w fs) v mark (length w.arenas.blocks.slots) p.base n (Kind.Branches next (count - 1))) (Now.Going (record { place = p.place + 1; count = 1; base = p.base; frame = n }))
-    (goal_step view w.loaded.preds g gs e w.store.now.state k es)
+    (goal_step view w.loaded.preds g e w.store.now.state (with_rest gs k es))
 some-branches w v mark p s fs n count next code view g gs e k es node some is_code pushed marks finds stands =
     let it : _ = node-is w p s count g gs e k es node pushed.0 stands in
     let there : (h : GoalTree) (b : Block) (last : Bool) → IsHere (tables_in w.loaded) (steps_of w.loaded) b (p.place + 1) h last → next ≡ p.place + 1 + nodes h =
     λ h b last here. finds w.loaded.terms h (subst (λ c. StandsAt (tables_of w.loaded.terms c) c.steps.items (p.place + 1) h) is_code here.stands) in
     subst (λ h. StandsAfter (with_entry (with_new_frames w fs) v mark (length w.arenas.blocks.slots) p.base n (Kind.Branches next (count - 1))) (Now.Going (record { place = p.place + 1; count = 1; base = p.base; frame = n }))
-    (goal_step view w.loaded.preds h gs e w.store.now.state k es)) (sym it.1)
+    (goal_step view w.loaded.preds h e w.store.now.state (with_rest gs k es))) (sym it.1)
     (more-of w v mark p s fs n count next view it.0 gs e k es it.2 some pushed marks there (subst (λ r. StandsGoing w p (goal r gs) e k es) it.1 stands))
 
 -- ---- what the code finds

@@ -28,7 +28,7 @@ use Rattle.pi_engine_arenas.specs.Arenas.{ArenasView}
 use Rattle.pi_engine_arenas.specs.Frames.{point_behind, slot_number}
 use Rattle.pi_meaning.specs.declared.happening.Mode.{Mode}
 use Rattle.pi_meaning.specs.Machine.Configuration.{Frame, going, telling, failed, raising, Entry as EntryData}
-use Rattle.pi_meaning.specs.Machine.Step.{done_now, written_now, goal_step}
+use Rattle.pi_meaning.specs.Machine.Step.{done_now, written_now, goal_step, with_rest}
 use Rattle.pi_meaning.proofs.Machine.CallFound.{effect-comes-to, value-comes-to}
 use Rattle.pi_engine_stands.specs.Here.{Block}
 use Rattle.pi_engine_stands.specs.Stands.{World, tables_in, steps_of, StandsGoing, GoingIs, NowIs, going_now, telling_now, failing_now, raising_now}
@@ -93,7 +93,7 @@ pub effect-step : {M : Type 0} (w : World M) (v u : StoreView M) (c : ArenasView
     let args : List Tree = operand_trees (tables_in w.loaded) first arity in
     let all : EvaluatedAll = evaluated_all (trees_of args) e w.store.now.state in
     EvaluatesAll (block_of w p g gs e k es stands) w.store v w.arenas c all rs → Stays v u → built_in_predicate (slice_index_or (tables_in w.loaded).names name []) all.trees all.state ≡ Some d →
-    ComesNext mode (point_behind p s) d u.now.state now → StandsAfter (moved w u c) now (goal_step view w.loaded.preds g gs e w.store.now.state k es)
+    ComesNext mode (point_behind p s) d u.now.state now → StandsAfter (moved w u c) now (goal_step view w.loaded.preds g e w.store.now.state (with_rest gs k es))
 unfolding node_kind
 effect-step w v u c p s built name first arity rs d mode now view g gs e k es node at stands fits evaluates stays does next =
     let is : GoingIs w p (goal g gs) e k = going-of w p (goal g gs) e w.store.now.state k stands.runs in
@@ -106,7 +106,7 @@ effect-step w v u c p s built name first arity rs d mode now view g gs e k es no
     let state : IsState u.now.state = subst IsState (sym (stays.state ∙ evaluates.writes.state)) (evaluated-all-state (trees_of args) e w.store.now.state stands.entries.state) in
     let behind : GoingIs (moved w u c) (point_behind p s) gs all.slots k =
     going-behind (moved w u c) p s g gs all.slots k at (going-moved w u c p (goal g gs) e all.slots u.now.state k es stands.entries is writes) in
-    subst (λ h. StandsAfter (moved w u c) now (goal_step view w.loaded.preds h gs e w.store.now.state k es)) (sym it)
+    subst (λ h. StandsAfter (moved w u c) now (goal_step view w.loaded.preds h e w.store.now.state (with_rest gs k es))) (sym it)
     (subst (StandsAfter (moved w u c) now) (sym (effect-comes-to view w.loaded.preds word args d gs e w.store.now.state k es does))
     (record { entries = stack-moved w u c is.block all.slots u.now.state es writes state stands.entries; runs = next-now (moved w u c) mode view d (point_behind p s) gs all.slots k now fits behind next }))
 
@@ -122,7 +122,7 @@ pub value-step : {M : Type 0} (w : World M) (v u : StoreView M) (c : ArenasView 
     let b : Block = block_of w p g gs e k es stands in
     EvaluatesAll b w.store v w.arenas c all rs → built_in_function (slice_index_or (tables_in w.loaded).names name []) all.trees all.state ≡ Some (Gives t r) → GivesTerm v u r made t →
     into < b.count → begins ≡ slot_number b.base b.first → slot ≡ slot_number begins into → new.slots ≡ slice_set c.blocks.slots slot (Some made) → new.kept ≡ c.blocks.kept → KeepsBlocks c.blocks new → length c.blocks.slots ≤ 18446744073709551615 →
-    q ≡ point_behind p s → StandsAfter (moved w u (with_blocks c new)) (Now.Going q) (goal_step view w.loaded.preds g gs e w.store.now.state k es)
+    q ≡ point_behind p s → StandsAfter (moved w u (with_blocks c new)) (Now.Going q) (goal_step view w.loaded.preds g e w.store.now.state (with_rest gs k es))
 unfolding node_kind
 value-step w v u c new p q s built name first arity into begins slot rs made t r view g gs e k es node at stands evaluates does gives within begins_is slot_at slots kept stays most next =
     let is : GoingIs w p (goal g gs) e k = going-of w p (goal g gs) e w.store.now.state k stands.runs in
@@ -140,7 +140,7 @@ value-step w v u c new p q s built name first arity into begins slot rs made t r
     let state : IsState r = made-state all.state r t (evaluated-all-state (trees_of args) e w.store.now.state stands.entries.state) (functions-make word all.trees all.state (Gives t r) does) in
     let behind : GoingIs (moved w u d) (point_behind p s) gs f k =
     going-behind (moved w u d) p s g gs f k at (going-moved w u d p (goal g gs) e f r k es stands.entries is writes) in
-    subst (λ h. StandsAfter (moved w u d) (Now.Going q) (goal_step view w.loaded.preds h gs e w.store.now.state k es)) (sym it)
+    subst (λ h. StandsAfter (moved w u d) (Now.Going q) (goal_step view w.loaded.preds h e w.store.now.state (with_rest gs k es))) (sym it)
     (subst (StandsAfter (moved w u d) (Now.Going q)) (sym (value-comes-to view w.loaded.preds word args into (Gives t r) gs e w.store.now.state k es does))
     (record {
       entries = stack-moved w u d is.block f r es writes (subst IsState (sym gives.changes.state) state) stands.entries;
@@ -153,7 +153,7 @@ pub refusal-step : {M : Type 0} (w : World M) (v u : StoreView M) (c : ArenasVie
     let args : List Tree = operand_trees (tables_in w.loaded) first arity in
     let all : EvaluatedAll = evaluated_all (trees_of args) e w.store.now.state in
     EvaluatesAll (block_of w p g gs e k es stands) w.store v w.arenas c all rs → Stays v u → built_in_function (slice_index_or (tables_in w.loaded).names name []) all.trees all.state ≡ Some (Refuses ball) →
-    StandsAfter (moved w u c) (Now.Raising ball) (goal_step view w.loaded.preds g gs e w.store.now.state k es)
+    StandsAfter (moved w u c) (Now.Raising ball) (goal_step view w.loaded.preds g e w.store.now.state (with_rest gs k es))
 unfolding node_kind
 refusal-step w v u c p s built name first arity into rs ball view g gs e k es node at stands evaluates stays does =
     let is : GoingIs w p (goal g gs) e k = going-of w p (goal g gs) e w.store.now.state k stands.runs in
@@ -164,6 +164,6 @@ refusal-step w v u c p s built name first arity into rs ball view g gs e k es no
     let writes : Writes is.block w.store u w.arenas c all.slots u.now.state =
     writes-then is.block w.store v u w.arenas c c all.slots all.slots all.state u.now.state evaluates.writes (writes-kept is.block v u c all.slots stays.keeps evaluates.writes.holds) in
     let state : IsState u.now.state = subst IsState (sym (stays.state ∙ evaluates.writes.state)) (evaluated-all-state (trees_of args) e w.store.now.state stands.entries.state) in
-    subst (λ h. StandsAfter (moved w u c) (Now.Raising ball) (goal_step view w.loaded.preds h gs e w.store.now.state k es)) (sym it)
+    subst (λ h. StandsAfter (moved w u c) (Now.Raising ball) (goal_step view w.loaded.preds h e w.store.now.state (with_rest gs k es))) (sym it)
     (subst (StandsAfter (moved w u c) (Now.Raising ball)) (sym (value-comes-to view w.loaded.preds word args into (Refuses ball) gs e w.store.now.state k es does))
     (record { entries = stack-moved w u c is.block all.slots u.now.state es writes state stands.entries; runs = raising_now }))

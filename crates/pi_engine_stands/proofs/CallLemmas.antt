@@ -22,7 +22,7 @@ use Rattle.pi_constraints.proofs.KeepsLemmas.{new-keeps}
 use Rattle.pi_constraints.specs.Value.{value}
 use Rattle.pi_engine_stands.specs.Makes.{raised_for}
 use Rattle.pi_meaning.specs.Machine.Configuration.{Frame, Entry, Now, going, failed, raising, config}
-use Rattle.pi_meaning.specs.Machine.Step.{silently, done_now, goal_step}
+use Rattle.pi_meaning.specs.Machine.Step.{silently, done_now, goal_step, with_rest}
 
 pub apply-of : (g : GoalTree) (name : List ℕ) (ts : List Tree) (into : ℕ) → GoalKind.Apply name ts into ≡ kind_of g → g ≡ apply name ts into
 unfolding kind_of
@@ -106,7 +106,7 @@ after-one v (Some r) gs e k = refl
 pub equal-comes-to : (v : View) (preds : List PredTree) (l r : Tree) (gs : GoalTrees) (e : Places) (s : State) (k : List Frame) (es : List Entry) →
     let x : Evaluated = evaluated l e s in
     let y : Evaluated = evaluated r x.slots x.state in
-    goal_step v preds (call (codes "=") (l ∷ r ∷ [])) gs e s k es ≡ silently (config (after_equal (unified y.state x.tree y.tree) gs y.slots k) es)
+    goal_step v preds (call (codes "=") (l ∷ r ∷ [])) e s (with_rest gs k es) ≡ silently (config (after_equal (unified y.state x.tree y.tree) gs y.slots k) es)
 unfolding goal_step evaluated built_in_predicate tests comparing_tests kind_tests writing_predicates other_predicates done_by tree_count
 equal-comes-to v preds l r gs e s k es =
     let x : Evaluated = evaluated l e s in
@@ -117,6 +117,6 @@ equal-comes-to v preds l r gs e s k es =
 
 pub throw-comes-to : (v : View) (preds : List PredTree) (t : Tree) (gs : GoalTrees) (e : Places) (s : State) (k : List Frame) (es : List Entry) →
     let x : Evaluated = evaluated t e s in
-    goal_step v preds (call (codes "throw") (t ∷ [])) gs e s k es ≡ silently (config (raising (raised_for (value (bindings x.state) x.tree))) es)
+    goal_step v preds (call (codes "throw") (t ∷ [])) e s (with_rest gs k es) ≡ silently (config (raising (raised_for (value (bindings x.state) x.tree))) es)
 unfolding goal_step evaluated built_in_predicate tests comparing_tests kind_tests writing_predicates other_predicates done_by tree_count thrown
 throw-comes-to v preds t gs e s k es = refl

@@ -25,7 +25,7 @@ use Rattle.pi_engine_arenas.specs.Frames.{PushesBehind}
 use Rattle.pi_engine_code.specs.Laid.{IsNotBuiltIn}
 use Rattle.pi_engine_code.specs.Code.{Tables, preds_of, arguments, node_kind, operand_tree}
 use Rattle.pi_meaning.specs.Machine.Configuration.{Frame, Called, Config, behind, returning, Entry as EntryData}
-use Rattle.pi_meaning.specs.Machine.Step.{call_step, try_clauses, goal_step, back_to}
+use Rattle.pi_meaning.specs.Machine.Step.{call_step, try_clauses, goal_step, back_to, with_rest}
 use Rattle.pi_engine_stands.specs.Here.{Block, SayLast, AreReadable, LeftBehind}
 use Rattle.pi_engine_stands.specs.Stands.{World, tables_in, steps_of, IsNumberOf, HasNumber, IsCodeOf, StackStands, Stands, StandsGoing, GoingIs}
 use Rattle.pi_engine_stands.specs.Evaluates.{with_blocks, operand_trees, EvaluatesAll}
@@ -165,7 +165,7 @@ pub record CallRuns {M : Type 0} (w after : World M) (q base frame : ℕ) (predi
   pub frames : List Frame
   pub made : Made after q base frame (record { function = false; args = args }) pred.clauses frames es predicate.first
   pub pred_is : made.is.call.call.pred ≡ pred
-  pub step : (now : Now) (end : World M) → Stands end now (try_clauses pred.index pred.clauses args (back_to [] after.store.now.state frames) es) → StandsAfter end now (goal_step view w.loaded.preds g gs e w.store.now.state k es)
+  pub step : (now : Now) (end : World M) → Stands end now (try_clauses pred.index pred.clauses args (back_to [] after.store.now.state frames) es) → StandsAfter end now (goal_step view w.loaded.preds g e w.store.now.state (with_rest gs k es))
 
 pub call-runs : {M : Type 0} (w : World M) (v : StoreView M) (a : ArenasView M) (fs : List Point) (c d : BlocksView) (rs : List Ref) (p : Point) (s : Step) (q operands n : ℕ) (predicate : Predicate) (view : View) (g : GoalTree) (gs : GoalTrees) (e : Places) (k : List Frame) (es : List EntryData) →
     Calls w g q operands predicate → slice_get (steps_of w.loaded) p.place ≡ Some s → (stands : StandsGoing w p (goal g gs) e k es) → AreReadable (tables_in w.loaded) (block_of w p g gs e k es stands) operands predicate.arity →
@@ -202,7 +202,7 @@ call-runs w v a fs c d rs p s q operands n predicate view g gs e k es calls at s
       made = made;
       step = λ now end ends.
           subst (StandsAfter end now)
-          (sym (ap (λ h. goal_step view w.loaded.preds h gs e w.store.now.state k es) calls.goal_is
+          (sym (ap (λ h. goal_step view w.loaded.preds h e w.store.now.state (with_rest gs k es)) calls.goal_is
           ∙ call-comes-to view w.loaded.preds calls.it.pred.name args calls.it.pred gs e w.store.now.state k es none
           (ap (λ m. find_pred false calls.it.pred.name m w.loaded.preds) (count ∙ calls.it.arity) ∙ found-by-number false w.loaded.preds q calls.it.pred stands.entries.code.apart calls.it.is_pred calls.it.is_function)))
           (stands-called end now calls.it.pred.quiet (try_clauses calls.it.pred.index calls.it.pred.clauses all.trees (back_to [] all.state (returning all.slots (behind gs k))) es)
@@ -213,7 +213,7 @@ call-runs w v a fs c d rs p s q operands n predicate view g gs e k es calls at s
 -- what the step of such a goal is
 pub call-form : {M : Type 0} (w : World M) (q operands : ℕ) (predicate : Predicate) (view : View) (g : GoalTree) (gs : GoalTrees) (e : Places) (k : List Frame) (es : List EntryData) → (calls : Calls w g q operands predicate) →
     IsCodeOf w.loaded.code (tables_in w.loaded) w.store.names w.loaded.preds → operands + predicate.arity ≤ length (tables_in w.loaded).operands →
-    (x : Config) × (goal_step view w.loaded.preds g gs e w.store.now.state k es ≡ call_step predicate.is_quiet x)
+    (x : Config) × (goal_step view w.loaded.preds g e w.store.now.state (with_rest gs k es) ≡ call_step predicate.is_quiet x)
 call-form w q operands predicate view g gs e k es calls code within =
     let T : Tables = tables_in w.loaded in
     let args : List Tree = operand_trees T operands predicate.arity in
@@ -221,7 +221,7 @@ call-form w q operands predicate view g gs e k es calls code within =
     let next : Config = try_clauses calls.it.pred.index calls.it.pred.clauses all.trees (back_to [] all.state (returning all.slots (behind gs k))) es in
     let count : tree_count all.trees ≡ predicate.arity = all-count T operands predicate.arity e w.store.now.state within in (
       next,
-      ap (λ h. goal_step view w.loaded.preds h gs e w.store.now.state k es) calls.goal_is
+      ap (λ h. goal_step view w.loaded.preds h e w.store.now.state (with_rest gs k es)) calls.goal_is
           ∙ call-comes-to view w.loaded.preds calls.it.pred.name args calls.it.pred gs e w.store.now.state k es (ap (λ n. is_given false calls.it.pred.name n) (count ∙ calls.it.arity) ∙ calls.it.not_given)
           (ap (λ m. find_pred false calls.it.pred.name m w.loaded.preds) (count ∙ calls.it.arity) ∙ found-by-number false w.loaded.preds q calls.it.pred code.apart calls.it.is_pred calls.it.is_function)
           ∙ ap (λ b. call_step b next) (sym calls.it.quiet),

@@ -18,7 +18,7 @@ use Rattle.pi_engine_arenas.specs.declared.run.Now.{Now}
 use Rattle.pi_engine_code.specs.Code.{node_kind, operand_tree}
 use Rattle.pi_engine_arenas.specs.Arenas.{ArenasView}
 use Rattle.pi_meaning.specs.Machine.Configuration.{Frame, behind, catch_level, Entry as EntryData}
-use Rattle.pi_meaning.specs.Machine.Step.{goal_step, inside, back_to}
+use Rattle.pi_meaning.specs.Machine.Step.{goal_step, inside, back_to, with_rest}
 use Rattle.pi_meaning.specs.Machine.Shape.{open_level}
 use Rattle.pi_engine_stands.specs.Here.{SayLast, IsReadable}
 use Rattle.pi_engine_stands.specs.Stands.{tables_in, World, steps_of, Stands, catch_kind, StandsGoing, GoingIs, going_now}
@@ -52,7 +52,7 @@ pub catch-enters : {M : Type 0} (w after : World M) (v : StoreView M) (a : Arena
     s.node ≡ Node.Catch operand → slice_get (steps_of w.loaded) p.place ≡ Some s → (stands : StandsGoing w p (goal g gs) e k es) →
     IsReadable (tables_in w.loaded) (block_of w p g gs e k es stands) operand →
     Evaluates (block_of w p g gs e k es stands) w.store v w.arenas a (evaluated (operand_tree (tables_in w.loaded) operand) e w.store.now.state) q →
-    EntersCatch (moved w v a) after p s now → StandsAfter after now (goal_step view w.loaded.preds g gs e w.store.now.state k es)
+    EntersCatch (moved w v a) after p s now → StandsAfter after now (goal_step view w.loaded.preds g e w.store.now.state (with_rest gs k es))
 unfolding node_kind goal_step
 catch-enters w after v a p s operand q now view g gs e k es node at stands readable value_is enters =
     let is : GoingIs w p (goal g gs) e k = going-of w p (goal g gs) e w.store.now.state k stands.runs in
@@ -72,6 +72,6 @@ catch-enters w after v a p s operand q now view g gs e k es node at stands reada
     }) in
     let entered : Stands after now (inside it.0 x.slots v.now.state (catch_level (evaluated ball x.slots v.now.state).tree it.1 (back_to x.slots v.now.state (behind gs k))) es) =
     enters it.0 it.1 ball gs x.slots k es at moves (again ∙ ap (λ t. record { tree = t; slots = x.slots; state = v.now.state }) (sym same)) in
-    subst (λ r. StandsAfter after now (goal_step view w.loaded.preds r gs e w.store.now.state k es)) (sym it.2)
+    subst (λ r. StandsAfter after now (goal_step view w.loaded.preds r e w.store.now.state (with_rest gs k es))) (sym it.2)
     (subst (λ r. Stands after now (inside it.0 x.slots r (catch_level x.tree it.1 (back_to x.slots r (behind gs k))) es)) value_is.writes.state
     (subst (λ t. Stands after now (inside it.0 x.slots v.now.state (catch_level t it.1 (back_to x.slots v.now.state (behind gs k))) es)) same entered))

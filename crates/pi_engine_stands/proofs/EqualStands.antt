@@ -23,7 +23,7 @@ use Rattle.pi_engine_code.specs.Code.{node_kind, operand_tree}
 use Rattle.pi_engine_arenas.specs.Frames.{point_behind, slot_number}
 use Rattle.pi_engine_arenas.specs.Arenas.{ArenasView}
 use Rattle.pi_meaning.specs.Machine.Configuration.{Frame, config, raising, Entry as EntryData}
-use Rattle.pi_meaning.specs.Machine.Step.{goal_step}
+use Rattle.pi_meaning.specs.Machine.Step.{goal_step, with_rest}
 use Rattle.pi_engine_stands.specs.Here.{Block, Holds, IsStepOf, NodeIsReadable, AreHere}
 use Rattle.pi_engine_stands.specs.Stands.{tables_in, World, steps_of, StackStands, Stands, StandsGoing, GoingIs, NowIs, going_now, failing_now, raising_now}
 use Rattle.pi_engine_stands.specs.Makes.{StandsAfter, raised_for}
@@ -154,7 +154,7 @@ pub equal-step : {M : Type 0} (w : World M) (v u : StoreView M) (c : ArenasView 
     let x : Evaluated = evaluated (operand_tree (tables_in w.loaded) left) e w.store.now.state in
     let y : Evaluated = evaluated (operand_tree (tables_in w.loaded) right) x.slots x.state in
     Evaluates (block_of w p g gs e k es stands) w.store v w.arenas c y q → Keeps v u → Answers (unified y.state x.tree y.tree) one u.now.state → IsState u.now.state →
-    now ≡ (if one then Now.Going (point_behind p s) else Now.Failing) → StandsAfter (moved w u c) now (goal_step view w.loaded.preds g gs e w.store.now.state k es)
+    now ≡ (if one then Now.Going (point_behind p s) else Now.Failing) → StandsAfter (moved w u c) now (goal_step view w.loaded.preds g e w.store.now.state (with_rest gs k es))
 unfolding node_kind
 equal-step w v u c p s left right q one now view g gs e k es node at stands both keeps answers state next =
     let is : GoingIs w p (goal g gs) e k = going-of w p (goal g gs) e w.store.now.state k stands.runs in
@@ -165,7 +165,7 @@ equal-step w v u c p s left right q one now view g gs e k es node at stands both
     let it : g ≡ call (codes "=") (l ∷ r ∷ []) = call-of g (codes "=") (l ∷ r ∷ []) (kind-of-node w p s g gs e k (Node.Unify left right) at is node) in
     let all : Writes is.block w.store u w.arenas c y.slots u.now.state =
     writes-then is.block w.store v u w.arenas c c y.slots y.slots y.state u.now.state both.writes (writes-kept is.block v u c y.slots keeps both.writes.holds) in
-    subst (λ h. StandsAfter (moved w u c) now (goal_step view w.loaded.preds h gs e w.store.now.state k es)) (sym it)
+    subst (λ h. StandsAfter (moved w u c) now (goal_step view w.loaded.preds h e w.store.now.state (with_rest gs k es))) (sym it)
     (subst (λ h. StandsAfter (moved w u c) now h) (sym (equal-comes-to view w.loaded.preds l r gs e w.store.now.state k es))
     (equal-by w u c p s g gs e y.slots k es (unified y.state x.tree y.tree) one now at stands.entries is all state answers next))
 
@@ -182,14 +182,14 @@ pub throw-step : {M : Type 0} (w : World M) (v : StoreView M) (c : ArenasView M)
     s.node ≡ Node.Throw operand → slice_get (steps_of w.loaded) p.place ≡ Some s → (stands : StandsGoing w p (goal g gs) e k es) →
     let x : Evaluated = evaluated (operand_tree (tables_in w.loaded) operand) e w.store.now.state in
     Evaluates (block_of w p g gs e k es stands) w.store v w.arenas c x q → IsState v.now.state → ball ≡ raised_for (value (bindings x.state) x.tree) →
-    StandsAfter (moved w v c) (Now.Raising ball) (goal_step view w.loaded.preds g gs e w.store.now.state k es)
+    StandsAfter (moved w v c) (Now.Raising ball) (goal_step view w.loaded.preds g e w.store.now.state (with_rest gs k es))
 unfolding node_kind
 throw-step w v c p s operand q ball view g gs e k es node at stands value_is state raised =
     let is : GoingIs w p (goal g gs) e k = going-of w p (goal g gs) e w.store.now.state k stands.runs in
     let t : Tree = operand_tree (tables_in w.loaded) operand in
     let x : Evaluated = evaluated t e w.store.now.state in
     let it : g ≡ call (codes "throw") (t ∷ []) = call-of g (codes "throw") (t ∷ []) (kind-of-node w p s g gs e k (Node.Throw operand) at is node) in
-    subst (λ h. StandsAfter (moved w v c) (Now.Raising ball) (goal_step view w.loaded.preds h gs e w.store.now.state k es)) (sym it)
+    subst (λ h. StandsAfter (moved w v c) (Now.Raising ball) (goal_step view w.loaded.preds h e w.store.now.state (with_rest gs k es))) (sym it)
     (subst (λ h. StandsAfter (moved w v c) (Now.Raising ball) h) (sym (throw-comes-to view w.loaded.preds t gs e w.store.now.state k es))
     (subst (λ b. Stands (moved w v c) (Now.Raising ball) (config (raising b) es)) raised
     (record { entries = stack-moved w v c is.block x.slots x.state es value_is.writes state stands.entries; runs = raising_now })))

@@ -21,7 +21,7 @@ use Rattle.pi_engine_arenas.specs.declared.run.Now.{Now}
 use Rattle.pi_engine_code.specs.Code.{Tables, node_kind}
 use Rattle.pi_engine_arenas.specs.Frames.{point_behind}
 use Rattle.pi_meaning.specs.Machine.Configuration.{Frame, Config, config, going, Now as NowData, Entry as EntryData}
-use Rattle.pi_meaning.specs.Machine.Step.{Outcome, silently, with_tick, quietly, call_step, goal_step, step, deeper}
+use Rattle.pi_meaning.specs.Machine.Step.{Outcome, silently, with_tick, quietly, call_step, goal_step, step, deeper, with_rest}
 use Rattle.pi_meaning.specs.Machine.Shape.{IsGood}
 use Rattle.pi_meaning.specs.Machine.Built.{AreOfRules}
 use Rattle.pi_meaning.specs.Machine.Leads.{Leads}
@@ -189,7 +189,7 @@ tick-form : {M : Type 0} (w : World M) (p : Point) (s : Step) (c : Config) (v : 
 unfolding step goal_step node_kind
 tick-form w p s c v names is node it =
     ap (step v w.loaded.preds names) it.is
-    ∙ ap (λ g. goal_step v w.loaded.preds g it.gs it.e w.store.now.state it.k c.stack)
+    ∙ ap (λ g. goal_step v w.loaded.preds g it.e w.store.now.state (with_rest it.gs it.k c.stack))
     (tick-of it.g (kind-of-node w p s it.g it.gs it.e it.k Node.Tick is.at (going-of w p _ it.e w.store.now.state it.k it.stands.runs) node))
 
 pub tick-passes : {M : Type 0} (w : World M) (p q : Point) (s : Step) (mode : Mode) (old new : Budget) → s.node ≡ Node.Tick → counted mode old new ≡ 1 → (p.place + s.size < 2 ^ 32 → q ≡ point_behind p s) → GoalGoes mode old new w w p s (Now.Going q)
@@ -220,9 +220,9 @@ tick-refused w p s mode old new now node same ended none v fits names c is =
 pub record CallThere {M : Type 0} (w : World M) (p : Point) (c : Config) (v : View) (names : List NameSlot) (quiet : Bool) : Type 0 where
   pub it : GoalThere w p c
   pub next : Config
-  pub comes : goal_step v w.loaded.preds it.g it.gs it.e w.store.now.state it.k c.stack ≡ call_step quiet next
+  pub comes : goal_step v w.loaded.preds it.g it.e w.store.now.state (with_rest it.gs it.k c.stack) ≡ call_step quiet next
 
-pub by-goal : {M : Type 0} (w : World M) (p : Point) (c : Config) (v : View) (names : List NameSlot) (it : GoalThere w p c) → step v w.loaded.preds names c ≡ goal_step v w.loaded.preds it.g it.gs it.e w.store.now.state it.k c.stack
+pub by-goal : {M : Type 0} (w : World M) (p : Point) (c : Config) (v : View) (names : List NameSlot) (it : GoalThere w p c) → step v w.loaded.preds names c ≡ goal_step v w.loaded.preds it.g it.e w.store.now.state (with_rest it.gs it.k c.stack)
 unfolding step
 by-goal w p c v names it = ap (step v w.loaded.preds names) it.is
 
@@ -316,8 +316,8 @@ fail-of (count g into) h = absurd cc
 fail-of (catch g ball handler) h = absurd cc
 
 pub fail-step : {M : Type 0} (w : World M) (p : Point) (s : Step) (view : View) (g : GoalTree) (gs : GoalTrees) (e : Places) (k : List Frame) (es : List EntryData) → s.node ≡ Node.Fail → slice_get (steps_of w.loaded) p.place ≡ Some s →
-    StandsGoing w p (goal g gs) e k es → StandsAfter w Now.Failing (goal_step view w.loaded.preds g gs e w.store.now.state k es)
+    StandsGoing w p (goal g gs) e k es → StandsAfter w Now.Failing (goal_step view w.loaded.preds g e w.store.now.state (with_rest gs k es))
 unfolding node_kind goal_step
 fail-step w p s view g gs e k es node at stands =
     let it : g ≡ fail = fail-of g (kind-of-node w p s g gs e k Node.Fail at (going-of w p _ e w.store.now.state k stands.runs) node) in
-    subst (λ h. StandsAfter w Now.Failing (goal_step view w.loaded.preds h gs e w.store.now.state k es)) (sym it) (record { entries = stands.entries; runs = failing_now })
+    subst (λ h. StandsAfter w Now.Failing (goal_step view w.loaded.preds h e w.store.now.state (with_rest gs k es))) (sym it) (record { entries = stands.entries; runs = failing_now })

@@ -17,7 +17,7 @@ use Rattle.pi_engine_code.specs.Code.{Tables}
 use Rattle.pi_engine_arenas.specs.Arenas.{ArenasView, newest, opened}
 use Rattle.pi_engine_arenas.specs.declared.arenas.Entry.{Entry}
 use Rattle.pi_meaning.specs.Machine.Configuration.{Frame, Called, strict, guard_level, Back as BackData, going, Entry as EntryData}
-use Rattle.pi_meaning.specs.Machine.Step.{back_to, guarding, inside}
+use Rattle.pi_meaning.specs.Machine.Step.{back_to, guarding, inside, trial}
 use Rattle.pi_meaning.specs.Machine.Shape.{open_level}
 use Rattle.pi_engine_stands.specs.Here.{Block, IsHere, last_here, answers, in_block, Holds}
 use Rattle.pi_engine_stands.specs.Stands.{World, Loaded, tables_in, steps_of, entries_of, now_here, level_ends, entry_ends, ends_of, rule_block, rule_shape, clause_block, agrees_from, IsGuardHere, IsPredicateOf, guard_kind, StackIs, Stands, NowIs, going_now}
@@ -32,7 +32,7 @@ use Rattle.pi_engine_stands.proofs.RulesTaken.{predicate-of}
 -- ---- conditions
 
 guarding-inside : (g : GoalTree) (called : Called) (c : ClauseTree) (cs : List ClauseTree) (b : BackData) (es : List EntryData) (e : Places) → g ≢ truth →
-    guarding g called c cs b es e ≡ inside g e b.state (strict (guard_level called c cs) b) es
+    guarding g (trial called c cs b es) e ≡ inside g e b.state (strict (guard_level called c cs) b) es
 guarding-inside truth called c cs b es e some = absurd (some refl)
 guarding-inside fail called c cs b es e some = refl
 guarding-inside tick called c cs b es e some = refl
@@ -80,7 +80,7 @@ found-ends l r x kind base is is_kind begins = ap (entry_ends l) is ∙ ap (λ m
 pub guard-entered : {M : Type 0} (w : World M) (v : StoreView M) (a : ArenasView M) (p base frame number slots guard : ℕ) (called : Called) (c : ClauseTree) (cs : List ClauseTree) (s : State) (k : List Frame) (es : List EntryData) (again : Bool)
     (predicate : Predicate) (rule : Rule) (e : Places) → (applies : Applies w p base frame number called c cs s k es again predicate rule e) → rule.guard ≡ Some guard → s ≡ w.store.now.state →
     slots ≡ base + applies.is.call.call.pred.arity → KeepsCall w.order w.store v w.arenas a slots base frame (Kind.Strict (Strict.Guard p number)) again →
-    Stands (moved w v (opened a)) (Now.Going (record { place = guard; count = 1; base = base; frame = 0 })) (guarding c.guard called c cs (back_to [] s k) es e)
+    Stands (moved w v (opened a)) (Now.Going (record { place = guard; count = 1; base = base; frame = 0 })) (guarding c.guard (trial called c cs (back_to [] s k) es) e)
 unfolding open_level
 guard-entered w v a p base frame number slots guard called c cs s k es again predicate rule e applies is_guard same at keeps =
     let is : CallIs w p base frame number called (c ∷ cs) s k es again = applies.is in

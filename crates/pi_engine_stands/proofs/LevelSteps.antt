@@ -19,7 +19,7 @@ use Rattle.pi_engine_arenas.specs.Frames.{PushesBehind}
 use Rattle.pi_engine_arenas.specs.Arenas.{entry_at, slots_kept_by}
 use Rattle.pi_engine_arenas.specs.declared.arenas.Entry.{Entry}
 use Rattle.pi_meaning.specs.Machine.Configuration.{Frame, behind, config, Entry as EntryData, strict, once_level, not_level, if_level, list_level, number_level}
-use Rattle.pi_meaning.specs.Machine.Step.{goal_step, run_goal, back_to}
+use Rattle.pi_meaning.specs.Machine.Step.{goal_step, run_goal, back_to, with_rest}
 use Rattle.pi_meaning.specs.Machine.Shape.{open_level}
 use Rattle.pi_engine_stands.specs.Here.{Block, SayLast, IsHere, Holds, Here, in_block, GoesOn}
 use Rattle.pi_engine_stands.specs.Stands.{tables_in, World, Loaded, Stands, ends_of, values_between, steps_of, entries_of, now_here, GoalStands, KindIs, once_kind, not_kind, if_kind, collect_kind, count_kind, StackIs, StackStands, StandsGoing, GoingIs, block_at}
@@ -141,7 +141,7 @@ some-is h = cc
 -- all of them, by the node
 pub level-step : {M : Type 0} (w : World M) (v : StoreView M) (mark : M) (p : Point) (s : Step) (fs : List Point) (n : ℕ) (node : Node) (kind : Kind) (view : View) (g : GoalTree) (gs : GoalTrees) (e : Places) (k : List Frame) (es : List EntryData) →
     Pushed w p s fs n → Marks w.order w.store v mark → s.node ≡ node → level_kind p.place (length w.arenas.collected) node ≡ Some kind → StandsGoing w p (goal g gs) e k es →
-    StandsAfter (entered_level (with_new_frames w fs) v mark p.base n kind) (Now.Going (record { place = p.place + 1; count = 1; base = p.base; frame = 0 })) (goal_step view w.loaded.preds g gs e w.store.now.state k es)
+    StandsAfter (entered_level (with_new_frames w fs) v mark p.base n kind) (Now.Going (record { place = p.place + 1; count = 1; base = p.base; frame = 0 })) (goal_step view w.loaded.preds g e w.store.now.state (with_rest gs k es))
 unfolding node_kind goal_step
 level-step w v mark p s fs n Node.True kind view g gs e k es pushed marks is level stands = absurd cc
 level-step w v mark p s fs n Node.Fail kind view g gs e k es pushed marks is level stands = absurd cc
@@ -153,40 +153,40 @@ level-step w v mark p s fs n Node.If kind view g gs e k es pushed marks is level
     let shown : node_kind (tables_in w.loaded) Node.If ≡ kind_of g =
     kind-here (tables_in w.loaded) (steps_of w.loaded) going.block p.place g _ s Node.If (first-of (tables_in w.loaded) (steps_of w.loaded) going.block p.place p.count g gs going.value going.last going.goals).here pushed.0 is in
     let it : _ = if-of g shown in
-    subst (λ r. StandsAfter (entered_level (with_new_frames w fs) v mark p.base n r) (Now.Going (record { place = p.place + 1; count = 1; base = p.base; frame = 0 })) (goal_step view w.loaded.preds g gs e w.store.now.state k es)) (some-is level)
-    (subst (λ r. StandsAfter (entered_level (with_new_frames w fs) v mark p.base n (Kind.Strict (Strict.If p.place))) (Now.Going (record { place = p.place + 1; count = 1; base = p.base; frame = 0 })) (goal_step view w.loaded.preds r gs e w.store.now.state k es)) (sym it.3)
+    subst (λ r. StandsAfter (entered_level (with_new_frames w fs) v mark p.base n r) (Now.Going (record { place = p.place + 1; count = 1; base = p.base; frame = 0 })) (goal_step view w.loaded.preds g e w.store.now.state (with_rest gs k es))) (some-is level)
+    (subst (λ r. StandsAfter (entered_level (with_new_frames w fs) v mark p.base n (Kind.Strict (Strict.If p.place))) (Now.Going (record { place = p.place + 1; count = 1; base = p.base; frame = 0 })) (goal_step view w.loaded.preds r e w.store.now.state (with_rest gs k es))) (sym it.3)
     (if-step w v mark p s fs n it.0 it.1 it.2 gs e k es pushed marks (subst (λ r. StandsGoing w p (goal r gs) e k es) it.3 stands)))
 level-step w v mark p s fs n Node.Not kind view g gs e k es pushed marks is level stands =
     let going : GoingIs w p (goal g gs) e k = going-of w p (goal g gs) e w.store.now.state k stands.runs in
     let shown : node_kind (tables_in w.loaded) Node.Not ≡ kind_of g =
     kind-here (tables_in w.loaded) (steps_of w.loaded) going.block p.place g _ s Node.Not (first-of (tables_in w.loaded) (steps_of w.loaded) going.block p.place p.count g gs going.value going.last going.goals).here pushed.0 is in
     let it : _ = not-of g shown in
-    subst (λ r. StandsAfter (entered_level (with_new_frames w fs) v mark p.base n r) (Now.Going (record { place = p.place + 1; count = 1; base = p.base; frame = 0 })) (goal_step view w.loaded.preds g gs e w.store.now.state k es)) (some-is level)
-    (subst (λ r. StandsAfter (entered_level (with_new_frames w fs) v mark p.base n (Kind.Strict (Strict.Not p.place))) (Now.Going (record { place = p.place + 1; count = 1; base = p.base; frame = 0 })) (goal_step view w.loaded.preds r gs e w.store.now.state k es)) (sym it.1)
+    subst (λ r. StandsAfter (entered_level (with_new_frames w fs) v mark p.base n r) (Now.Going (record { place = p.place + 1; count = 1; base = p.base; frame = 0 })) (goal_step view w.loaded.preds g e w.store.now.state (with_rest gs k es))) (some-is level)
+    (subst (λ r. StandsAfter (entered_level (with_new_frames w fs) v mark p.base n (Kind.Strict (Strict.Not p.place))) (Now.Going (record { place = p.place + 1; count = 1; base = p.base; frame = 0 })) (goal_step view w.loaded.preds r e w.store.now.state (with_rest gs k es))) (sym it.1)
     (not-step w v mark p s fs n it.0 gs e k es pushed marks (subst (λ r. StandsGoing w p (goal r gs) e k es) it.1 stands)))
 level-step w v mark p s fs n Node.Once kind view g gs e k es pushed marks is level stands =
     let going : GoingIs w p (goal g gs) e k = going-of w p (goal g gs) e w.store.now.state k stands.runs in
     let shown : node_kind (tables_in w.loaded) Node.Once ≡ kind_of g =
     kind-here (tables_in w.loaded) (steps_of w.loaded) going.block p.place g _ s Node.Once (first-of (tables_in w.loaded) (steps_of w.loaded) going.block p.place p.count g gs going.value going.last going.goals).here pushed.0 is in
     let it : _ = once-of g shown in
-    subst (λ r. StandsAfter (entered_level (with_new_frames w fs) v mark p.base n r) (Now.Going (record { place = p.place + 1; count = 1; base = p.base; frame = 0 })) (goal_step view w.loaded.preds g gs e w.store.now.state k es)) (some-is level)
-    (subst (λ r. StandsAfter (entered_level (with_new_frames w fs) v mark p.base n (Kind.Strict (Strict.Once p.place))) (Now.Going (record { place = p.place + 1; count = 1; base = p.base; frame = 0 })) (goal_step view w.loaded.preds r gs e w.store.now.state k es)) (sym it.1)
+    subst (λ r. StandsAfter (entered_level (with_new_frames w fs) v mark p.base n r) (Now.Going (record { place = p.place + 1; count = 1; base = p.base; frame = 0 })) (goal_step view w.loaded.preds g e w.store.now.state (with_rest gs k es))) (some-is level)
+    (subst (λ r. StandsAfter (entered_level (with_new_frames w fs) v mark p.base n (Kind.Strict (Strict.Once p.place))) (Now.Going (record { place = p.place + 1; count = 1; base = p.base; frame = 0 })) (goal_step view w.loaded.preds r e w.store.now.state (with_rest gs k es))) (sym it.1)
     (once-step w v mark p s fs n it.0 gs e k es pushed marks (subst (λ r. StandsGoing w p (goal r gs) e k es) it.1 stands)))
 level-step w v mark p s fs n (Node.Collect value into) kind view g gs e k es pushed marks is level stands =
     let going : GoingIs w p (goal g gs) e k = going-of w p (goal g gs) e w.store.now.state k stands.runs in
     let shown : node_kind (tables_in w.loaded) (Node.Collect value into) ≡ kind_of g =
     kind-here (tables_in w.loaded) (steps_of w.loaded) going.block p.place g _ s (Node.Collect value into) (first-of (tables_in w.loaded) (steps_of w.loaded) going.block p.place p.count g gs going.value going.last going.goals).here pushed.0 is in
     let it : _ = collect-of g value into shown in
-    subst (λ r. StandsAfter (entered_level (with_new_frames w fs) v mark p.base n r) (Now.Going (record { place = p.place + 1; count = 1; base = p.base; frame = 0 })) (goal_step view w.loaded.preds g gs e w.store.now.state k es)) (some-is level)
-    (subst (λ r. StandsAfter (entered_level (with_new_frames w fs) v mark p.base n (Kind.Strict (Strict.Collect p.place (length w.arenas.collected)))) (Now.Going (record { place = p.place + 1; count = 1; base = p.base; frame = 0 })) (goal_step view w.loaded.preds r gs e w.store.now.state k es)) (sym it.1)
+    subst (λ r. StandsAfter (entered_level (with_new_frames w fs) v mark p.base n r) (Now.Going (record { place = p.place + 1; count = 1; base = p.base; frame = 0 })) (goal_step view w.loaded.preds g e w.store.now.state (with_rest gs k es))) (some-is level)
+    (subst (λ r. StandsAfter (entered_level (with_new_frames w fs) v mark p.base n (Kind.Strict (Strict.Collect p.place (length w.arenas.collected)))) (Now.Going (record { place = p.place + 1; count = 1; base = p.base; frame = 0 })) (goal_step view w.loaded.preds r e w.store.now.state (with_rest gs k es))) (sym it.1)
     (collect-step w v mark p s fs n value into it.0 gs e k es pushed marks (subst (λ r. StandsGoing w p (goal r gs) e k es) it.1 stands)))
 level-step w v mark p s fs n (Node.Count into) kind view g gs e k es pushed marks is level stands =
     let going : GoingIs w p (goal g gs) e k = going-of w p (goal g gs) e w.store.now.state k stands.runs in
     let shown : node_kind (tables_in w.loaded) (Node.Count into) ≡ kind_of g =
     kind-here (tables_in w.loaded) (steps_of w.loaded) going.block p.place g _ s (Node.Count into) (first-of (tables_in w.loaded) (steps_of w.loaded) going.block p.place p.count g gs going.value going.last going.goals).here pushed.0 is in
     let it : _ = count-of g into shown in
-    subst (λ r. StandsAfter (entered_level (with_new_frames w fs) v mark p.base n r) (Now.Going (record { place = p.place + 1; count = 1; base = p.base; frame = 0 })) (goal_step view w.loaded.preds g gs e w.store.now.state k es)) (some-is level)
-    (subst (λ r. StandsAfter (entered_level (with_new_frames w fs) v mark p.base n (Kind.Strict (Strict.Count p.place 0))) (Now.Going (record { place = p.place + 1; count = 1; base = p.base; frame = 0 })) (goal_step view w.loaded.preds r gs e w.store.now.state k es)) (sym it.1)
+    subst (λ r. StandsAfter (entered_level (with_new_frames w fs) v mark p.base n r) (Now.Going (record { place = p.place + 1; count = 1; base = p.base; frame = 0 })) (goal_step view w.loaded.preds g e w.store.now.state (with_rest gs k es))) (some-is level)
+    (subst (λ r. StandsAfter (entered_level (with_new_frames w fs) v mark p.base n (Kind.Strict (Strict.Count p.place 0))) (Now.Going (record { place = p.place + 1; count = 1; base = p.base; frame = 0 })) (goal_step view w.loaded.preds r e w.store.now.state (with_rest gs k es))) (sym it.1)
     (count-step w v mark p s fs n into it.0 gs e k es pushed marks (subst (λ r. StandsGoing w p (goal r gs) e k es) it.1 stands)))
 level-step w v mark p s fs n (Node.Catch ball) kind view g gs e k es pushed marks is level stands = absurd cc
 level-step w v mark p s fs n (Node.Unify left right) kind view g gs e k es pushed marks is level stands = absurd cc

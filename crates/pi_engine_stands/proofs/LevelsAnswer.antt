@@ -19,7 +19,7 @@ use Rattle.pi_engine_arenas.specs.declared.run.Now.{Now}
 use Rattle.pi_engine_arenas.specs.Arenas.{ArenasView, entry_at, IsLevel}
 use Rattle.pi_engine_arenas.specs.declared.arenas.Entry.{Entry}
 use Rattle.pi_meaning.specs.Machine.Configuration.{Frame, Called, Entry as EntryData, Config, config, going, Strict, strict, guard_level, Back as BackData}
-use Rattle.pi_meaning.specs.Machine.Step.{back_to, strict_step, taken}
+use Rattle.pi_meaning.specs.Machine.Step.{back_to, strict_step, taken, trial}
 use Rattle.pi_meaning.specs.Machine.Shape.{IsBalanced}
 use Rattle.pi_engine_stands.specs.Here.{Block, with_value, Holds, LeftBehind, GoesOn, answers, gives, returns_to_end, more_of_block, returns_to}
 use Rattle.pi_engine_stands.specs.Stands.{World, tables_in, steps_of, entries_of, ends_of, entry_ends, level_ends, rule_block, back_here, now_here, Agrees, KindIs, once_kind, not_kind, if_kind, guard_kind, apply_kind, collect_kind, count_kind, StackIs, entry_above, StackStands, Stands, StandsGoing, GoingIs}
@@ -34,7 +34,7 @@ use Rattle.pi_engine_stands.proofs.OnceStand.{level-answers}
 
 -- ---- the condition of a rule
 
-guard-step : (called : Called) (c : ClauseTree) (cs : List ClauseTree) (e : Places) (t : State) (above : List EntryData) (b : BackData) (below : List EntryData) → strict_step (guard_level called c cs) e t above b below ≡ taken called c cs b below e t
+guard-step : (called : Called) (c : ClauseTree) (cs : List ClauseTree) (e : Places) (t : State) (above : List EntryData) (b : BackData) (below : List EntryData) → strict_step (guard_level called c cs) e t above b below ≡ taken (trial called c cs b below) e t
 unfolding strict_step
 guard-step called c cs e t above b below = refl
 

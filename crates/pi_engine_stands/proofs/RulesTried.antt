@@ -16,7 +16,7 @@ use Rattle.pi_engine_arenas.specs.declared.run.Now.{Now}
 use Rattle.pi_engine_code.specs.Code.{Tables}
 use Rattle.pi_engine_arenas.specs.Arenas.{ArenasView}
 use Rattle.pi_meaning.specs.Machine.Configuration.{Frame, Called, Config, Entry as EntryData}
-use Rattle.pi_meaning.specs.Machine.Step.{try_rules, tried, guarding, taken, back_to}
+use Rattle.pi_meaning.specs.Machine.Step.{try_rules, tried, guarding, taken, back_to, trial}
 use Rattle.pi_engine_stands.specs.Here.{Block, Holds}
 use Rattle.pi_engine_stands.specs.Stands.{World, now_here, tables_in, IsGuardHere, IsPredicateOf, clause_block, Stands}
 use Rattle.pi_engine_stands.specs.Tries.{CallIs, Applies, KeepsBelow, TellsHead, HasArguments, MatchesHead}
@@ -92,7 +92,7 @@ rule-passed w b p base frame number called s k es again whole n keeps told =
       is = call-passed (moved w w.store b) p base frame number called n.clause n.behind s k es again (call-tried w b p base frame number limit called (n.clause ∷ n.behind) s k es again n.is refl keeps);
       args = arguments-move (now_here w) (now_here (moved w w.store b)) base n.is.call.call.pred.arity limit frame called.args (omega arith) (below-moves w b limit frame keeps) n.args;
       now = n.now;
-      same = n.same ∙ ap (λ m. tried called n.clause n.behind (back_to [] s k) es m (try_rules called n.behind (back_to [] s k) es)) none;
+      same = n.same ∙ ap (λ m. tried (trial called n.clause n.behind (back_to [] s k) es) m (try_rules called n.behind (back_to [] s k) es)) none;
     }
 
 -- it matches
@@ -101,7 +101,7 @@ pub record RuleApplies {M : Type 0} (w : World M) (p base frame number : ℕ) (c
   pub behind : List ClauseTree
   pub slots : Places
   pub applies : Applies w p base frame number called clause behind s k es again predicate rule slots
-  pub same : whole ≡ guarding clause.guard called clause behind (back_to [] s k) es slots
+  pub same : whole ≡ guarding clause.guard (trial called clause behind (back_to [] s k) es) slots
 
 pub rule-applies : {M : Type 0} (w : World M) (b : ArenasView M) (p base frame number : ℕ) (called : Called) (s : State) (k : List Frame) (es : List EntryData) (again : Bool) (whole : Config) (predicate : Predicate) (rule : Rule) →
     (n : NextRule w p base frame number called s k es again whole) → KeepsBelow w.arenas b (base + n.is.call.call.pred.arity) → n.is.call.call.predicate ≡ predicate → slice_get w.loaded.code.rules.items number ≡ Some rule →
@@ -125,7 +125,7 @@ rule-applies w b p base frame number called s k es again whole predicate rule n 
         found = found;
         slots = filled.holds;
       };
-      same = n.same ∙ ap (λ m. tried called n.clause n.behind (back_to [] s k) es m (try_rules called n.behind (back_to [] s k) es)) some;
+      same = n.same ∙ ap (λ m. tried (trial called n.clause n.behind (back_to [] s k) es) m (try_rules called n.behind (back_to [] s k) es)) some;
     }
 
 -- ---- a rule that has no condition
@@ -136,10 +136,10 @@ no-guard t steps b (Some place) g is here = absurd cc
 
 pub guarding-taken : {M : Type 0} (w : World M) (p base frame number : ℕ) (called : Called) (c : ClauseTree) (cs : List ClauseTree) (s : State) (k : List Frame) (es : List EntryData) (again : Bool) (predicate : Predicate) (rule : Rule) (e : Places) →
     Applies w p base frame number called c cs s k es again predicate rule e → rule.guard ≡ None → s ≡ w.store.now.state →
-    taken called c cs (back_to [] s k) es e w.store.now.state ≡ guarding c.guard called c cs (back_to [] s k) es e
+    taken (trial called c cs (back_to [] s k) es) e w.store.now.state ≡ guarding c.guard (trial called c cs (back_to [] s k) es) e
 guarding-taken w p base frame number called c cs s k es again predicate rule e applies none now =
     let without : c.guard ≡ truth = no-guard (tables_in w.loaded) w.loaded.code.steps.items (clause_block base applies.is.call.call.pred c) rule.guard c.guard none (applies.is_rule.guard base) in
-    ap (λ u. taken called c cs (back_to [] s k) es e u) (sym now) ∙ ap (λ g. guarding g called c cs (back_to [] s k) es e) (sym without)
+    ap (λ u. taken (trial called c cs (back_to [] s k) es) e u) (sym now) ∙ ap (λ g. guarding g (trial called c cs (back_to [] s k) es) e) (sym without)
 
 -- ---- by the arguments of the functions
 

@@ -12,7 +12,7 @@ use Rattle.pi_core.specs.declared.goal_node.GoalKind.{GoalKind}
 use Rattle.pi_engine_code.specs.declared.code.Node.{Node}
 use Rattle.pi_engine_code.specs.Code.{Tables, node_kind, operand_tree, operand_trees}
 use Rattle.pi_meaning.specs.Machine.Configuration.{Frame, Config, Entry as EntryData}
-use Rattle.pi_meaning.specs.Machine.Step.{silently, goal_step}
+use Rattle.pi_meaning.specs.Machine.Step.{silently, goal_step, with_rest}
 use Rattle.pi_meaning.proofs.Machine.CallFound.{effect-comes-to, value-comes-to}
 use Rattle.pi_engine_stands.specs.Here.{Block, NodeIsReadable}
 use Rattle.pi_engine_stands.specs.Goes.{IsSilent}
@@ -44,7 +44,7 @@ no-silent t (Node.CallTerm first arity) k X silent kind is = absurd silent
 
 -- a step comes to a configuration without a Tick
 abbrev StepsSilently : View → List PredTree → GoalTree → GoalTrees → Places → State → List Frame → List EntryData → Type 0
-StepsSilently v preds g gs e s k es = (d : Config) × (goal_step v preds g gs e s k es ≡ silently d)
+StepsSilently v preds g gs e s k es = (d : Config) × (goal_step v preds g e s (with_rest gs k es) ≡ silently d)
 
 call-silent : (v : View) (preds : List PredTree) (t : Tables) (b : Block) (n : Node) (name : List ℕ) (args : List Tree) (gs : GoalTrees) (e : Places) (s : State) (k : List Frame) (es : List EntryData) → IsSilent n → NodeIsReadable t b n → node_kind t n ≡ GoalKind.Call name args →
     StepsSilently v preds (call name args) gs e s k es
@@ -62,10 +62,10 @@ call-silent v preds t b (Node.Count into) name args gs e s k es silent reads kin
 call-silent v preds t b (Node.Catch ball) name args gs e s k es silent reads kind = absurd cc
 call-silent v preds t b (Node.Unify left right) name args gs e s k es silent reads kind =
     let it : call (codes "=") (operand_tree t left ∷ operand_tree t right ∷ []) ≡ call name args = cc in
-    (_, sym (ap (λ g. goal_step v preds g gs e s k es) it) ∙ equal-comes-to v preds (operand_tree t left) (operand_tree t right) gs e s k es)
+    (_, sym (ap (λ g. goal_step v preds g e s (with_rest gs k es)) it) ∙ equal-comes-to v preds (operand_tree t left) (operand_tree t right) gs e s k es)
 call-silent v preds t b (Node.Throw ball) name args gs e s k es silent reads kind =
     let it : call (codes "throw") (operand_tree t ball ∷ []) ≡ call name args = cc in
-    (_, sym (ap (λ g. goal_step v preds g gs e s k es) it) ∙ throw-comes-to v preds (operand_tree t ball) gs e s k es)
+    (_, sym (ap (λ g. goal_step v preds g e s (with_rest gs k es)) it) ∙ throw-comes-to v preds (operand_tree t ball) gs e s k es)
 call-silent v preds t b (Node.Call p first) name args gs e s k es silent reads kind = absurd silent
 call-silent v preds t b (Node.Apply p first x) name args gs e s k es silent reads kind = absurd silent
 call-silent v preds t b (Node.Value operand) name args gs e s k es silent reads kind = absurd silent
@@ -73,7 +73,7 @@ call-silent v preds t b (Node.CallTerm first arity) name args gs e s k es silent
 call-silent v preds t b (Node.BuiltIn built n first arity) name args gs e s k es silent reads kind =
     let it : call (slice_index_or t.names n []) (operand_trees t first arity) ≡ call name args = cc in
     let does = effect-there (slice_index_or t.names n []) arity built (operand_trees t first arity) e s (args-count t first arity reads.0.0) reads.1 in
-    (_, sym (ap (λ g. goal_step v preds g gs e s k es) it) ∙ effect-comes-to v preds (slice_index_or t.names n []) (operand_trees t first arity) does.0 gs e s k es does.1)
+    (_, sym (ap (λ g. goal_step v preds g e s (with_rest gs k es)) it) ∙ effect-comes-to v preds (slice_index_or t.names n []) (operand_trees t first arity) does.0 gs e s k es does.1)
 call-silent v preds t b (Node.BuiltInValue built n first arity slot) name args gs e s k es silent reads kind = absurd cc
 
 apply-silent : (v : View) (preds : List PredTree) (t : Tables) (b : Block) (n : Node) (name : List ℕ) (args : List Tree) (into : ℕ) (gs : GoalTrees) (e : Places) (s : State) (k : List Frame) (es : List EntryData) → IsSilent n → NodeIsReadable t b n → node_kind t n ≡ GoalKind.Apply name args into →
@@ -100,7 +100,7 @@ apply-silent v preds t b (Node.BuiltIn built n first arity) name args into gs e 
 apply-silent v preds t b (Node.BuiltInValue built n first arity slot) name args into gs e s k es silent reads kind =
     let it : apply (slice_index_or t.names n []) (operand_trees t first arity) slot ≡ apply name args into = cc in
     let does = value-there (slice_index_or t.names n []) arity built (operand_trees t first arity) e s (args-count t first arity reads.0.0) reads.1 in
-    (_, sym (ap (λ g. goal_step v preds g gs e s k es) it) ∙ value-comes-to v preds (slice_index_or t.names n []) (operand_trees t first arity) slot does.0 gs e s k es does.1)
+    (_, sym (ap (λ g. goal_step v preds g e s (with_rest gs k es)) it) ∙ value-comes-to v preds (slice_index_or t.names n []) (operand_trees t first arity) slot does.0 gs e s k es does.1)
 
 pub silent-step : (v : View) (preds : List PredTree) (t : Tables) (b : Block) (n : Node) (g : GoalTree) (gs : GoalTrees) (e : Places) (s : State) (k : List Frame) (es : List EntryData) → IsSilent n → NodeIsReadable t b n → node_kind t n ≡ kind_of g → StepsSilently v preds g gs e s k es
 unfolding kind_of goal_step

@@ -22,7 +22,7 @@ use Rattle.pi_engine_arenas.specs.Arenas.{ArenasView, entry_at}
 use Rattle.pi_engine_arenas.specs.Frames.{PushesBehind}
 use Rattle.pi_meaning.specs.Machine.Configuration.{Frame, going, raising, Config, config, behind, returning, Now as NowData, Entry as EntryData, in_places}
 use Rattle.pi_meaning.specs.Machine.Built.{AreOfRules}
-use Rattle.pi_meaning.specs.Machine.Step.{deeper, first_now, goal_step, step}
+use Rattle.pi_meaning.specs.Machine.Step.{deeper, first_now, goal_step, step, with_rest}
 use Rattle.pi_meaning.specs.declared.happening.Budget.{Budget}
 use Rattle.pi_meaning.specs.declared.happening.Mode.{Mode}
 use Rattle.pi_meaning.proofs.Machine.CallFound.{term-comes-to}
@@ -67,18 +67,18 @@ one-at_least (suc k) is = omega arith
 -- the step is one down, to where this is next
 pub term-form : {M : Type 0} (w : World M) (p : Point) (s : Step) (operands arity : ℕ) (view : View) (g : GoalTree) (gs : GoalTrees) (e : Places) (k : List Frame) (es : List EntryData) → s.node ≡ Node.CallTerm operands arity →
     slice_get (steps_of w.loaded) p.place ≡ Some s → StandsGoing w p (goal g gs) e k es →
-    goal_step view w.loaded.preds g gs e w.store.now.state k es ≡ deeper (config (term_next w operands arity gs e k) es)
+    goal_step view w.loaded.preds g e w.store.now.state (with_rest gs k es) ≡ deeper (config (term_next w operands arity gs e k) es)
 term-form w p s operands arity view g gs e k es node at stands =
     let T : Tables = tables_in w.loaded in
     let is : GoingIs w p (goal g gs) e k = going-of w p (goal g gs) e w.store.now.state k stands.runs in
     let reads : NodeIsReadable T is.block (Node.CallTerm operands arity) = node-readable w p s g gs e k (Node.CallTerm operands arity) at is node in
     let count : tree_count (term_arguments w operands arity e).trees ≡ arity = all-count T operands arity e w.store.now.state reads.0.0 in
-    ap (λ h. goal_step view w.loaded.preds h gs e w.store.now.state k es) (term-of w p s g gs e k es operands arity node at stands)
+    ap (λ h. goal_step view w.loaded.preds h e w.store.now.state (with_rest gs k es)) (term-of w p s g gs e k es operands arity node at stands)
     ∙ term-comes-to view w.loaded.preds (codes "call") (operand_trees T operands arity) gs e w.store.now.state k es (ap (is_call (codes "call")) count ∙ reads.1)
 
 pub term-step : {M : Type 0} (w end : World M) (p : Point) (s : Step) (operands arity : ℕ) (now : Now) (view : View) (g : GoalTree) (gs : GoalTrees) (e : Places) (k : List Frame) (es : List EntryData) → s.node ≡ Node.CallTerm operands arity →
     slice_get (steps_of w.loaded) p.place ≡ Some s → StandsGoing w p (goal g gs) e k es → Stands end now (config (term_next w operands arity gs e k) es) →
-    StandsAfter end now (goal_step view w.loaded.preds g gs e w.store.now.state k es)
+    StandsAfter end now (goal_step view w.loaded.preds g e w.store.now.state (with_rest gs k es))
 term-step w end p s operands arity now view g gs e k es node at stands ends =
     subst (StandsAfter end now) (sym (term-form w p s operands arity view g gs e k es node at stands)) ends
 
@@ -91,7 +91,7 @@ pub term-goes : {M : Type 0} (before after : World M) (p : Point) (s : Step) (op
 term-goes before after p s operands arity now mode b same node runs v fits names c is =
     let it : GoalThere before p c = goal-there before p s c is (λ o. no-value s operands arity o node) in
     let next : Config = config (term_next before operands arity it.gs it.e it.k) c.stack in
-    let form : goal_step v before.loaded.preds it.g it.gs it.e before.store.now.state it.k c.stack ≡ deeper next = term-form before p s operands arity v it.g it.gs it.e it.k c.stack node is.at it.stands in
+    let form : goal_step v before.loaded.preds it.g it.e before.store.now.state (with_rest it.gs it.k c.stack) ≡ deeper next = term-form before p s operands arity v it.g it.gs it.e it.k c.stack node is.at it.stands in
     let stands : Stands after now next = subst (StandsAfter after now) form (runs v it.g it.gs it.e it.k c.stack is.at it.stands) in
     silent-ticks v names mode b after now c
     (deeper-on v names after now c next (subst (λ l. AreOfRules l.preds) same is.rules) is.good (ap (λ l. step v l.preds names c) (sym same) ∙ by-goal before p c v names it ∙ form) stands)
@@ -123,7 +123,7 @@ pub term-raises : {M : Type 0} (w : World M) (v : StoreView M) (a : ArenasView M
     s.node ≡ Node.CallTerm operands arity → slice_get (steps_of w.loaded) p.place ≡ Some s → (stands : StandsGoing w p (goal g gs) e k es) →
     let all : EvaluatedAll = term_arguments w operands arity e in
     Writes (block_of w p g gs e k es stands) w.store v w.arenas a all.slots all.state → term_next w operands arity gs e k ≡ raising ball →
-    StandsAfter (moved w v a) (Now.Raising ball) (goal_step view w.loaded.preds g gs e w.store.now.state k es)
+    StandsAfter (moved w v a) (Now.Raising ball) (goal_step view w.loaded.preds g e w.store.now.state (with_rest gs k es))
 term-raises w v a p s operands arity ball view g gs e k es node at stands writes raises =
     let is : GoingIs w p (goal g gs) e k = going-of w p (goal g gs) e w.store.now.state k stands.runs in
     let all : EvaluatedAll = term_arguments w operands arity e in
@@ -184,7 +184,7 @@ pub term-enters : {M : Type 0} (w : World M) (v : StoreView M) (a : ArenasView M
     Writes (block_of w p g gs e k es stands) w.store v w.arenas a all.slots all.state → term_next w operands arity gs e k ≡ going (goal it no_goals) (in_places ts) all.state (returning all.slots (behind gs k)) → AreTerms v rs ts →
     ((base : ℕ) → IsHere (tables_in w.loaded) (steps_of w.loaded) (record { base = base; first = 0; count = tree_count ts }) place it true) →
     PushesBehind p s a.frames fs n → GivesBack a.blocks c p.base s.is_last → d.slots ≡ c.slots ++ map (λ r. Some r) rs → KeepsBlocks c d → d.kept ≡ c.kept →
-    StandsAfter (moved w v (with_blocks (framed a fs) d)) (Now.Going (named_point place (length c.slots) n)) (goal_step view w.loaded.preds g gs e w.store.now.state k es)
+    StandsAfter (moved w v (with_blocks (framed a fs) d)) (Now.Going (named_point place (length c.slots) n)) (goal_step view w.loaded.preds g e w.store.now.state (with_rest gs k es))
 term-enters w v a fs c d rs p s operands arity n place it ts view g gs e k es node at stands writes goes terms here pushes gives new keeps kept =
     let T : Tables = tables_in w.loaded in
     let is : GoingIs w p (goal g gs) e k = going-of w p (goal g gs) e w.store.now.state k stands.runs in

@@ -15,7 +15,7 @@ use Rattle.pi_engine_arenas.specs.declared.arenas.Kind.{Kind}
 use Rattle.pi_engine_arenas.specs.declared.arenas.Strict.{Strict}
 use Rattle.pi_engine_arenas.specs.declared.run.Now.{Now}
 use Rattle.pi_meaning.specs.Machine.Configuration.{Frame, Entry, Config, config, going, catch_level, behind}
-use Rattle.pi_meaning.specs.Machine.Step.{Outcome, silently, with_tick, quietly, writing, answering, ending, goal_step, step, inside, back_to, deeper}
+use Rattle.pi_meaning.specs.Machine.Step.{Outcome, silently, with_tick, quietly, writing, answering, ending, goal_step, step, inside, back_to, deeper, with_rest}
 use Rattle.pi_meaning.specs.Machine.Shape.{IsBalanced}
 use Rattle.pi_meaning.specs.declared.happening.Mode.{Mode}
 use Rattle.pi_engine_stands.specs.Stands.{World, steps_of, Stands, StandsGoing}
@@ -37,14 +37,14 @@ abbrev pub RunsGoal : {M : Type 0} → World M → World M → Point → Step �
 RunsGoal before after p s now =
     (view : View) (g : GoalTree) (gs : GoalTrees) (e : Places) (k : List Frame) (es : List Entry) →
     slice_get (steps_of before.loaded) p.place ≡ Some s → StandsGoing before p (goal g gs) e k es →
-    StandsAfter after now (goal_step view before.loaded.preds g gs e before.store.now.state k es)
+    StandsAfter after now (goal_step view before.loaded.preds g e before.store.now.state (with_rest gs k es))
 
 -- the same under the views that fit a kind of machine: what a body of a planner call may not write it raises
 abbrev pub RunsGoalIn : {M : Type 0} → Mode → World M → World M → Point → Step → Now → Type 0
 RunsGoalIn mode before after p s now =
     (view : View) → Fits mode view → (g : GoalTree) (gs : GoalTrees) (e : Places) (k : List Frame) (es : List Entry) →
     slice_get (steps_of before.loaded) p.place ≡ Some s → StandsGoing before p (goal g gs) e k es →
-    StandsAfter after now (goal_step view before.loaded.preds g gs e before.store.now.state k es)
+    StandsAfter after now (goal_step view before.loaded.preds g e before.store.now.state (with_rest gs k es))
 
 -- the entry by which a goal with this node at a place is entered, where so many values are collected
 abbrev pub level_kind : ℕ → ℕ → Node → Option Kind

@@ -22,7 +22,7 @@ use Rattle.pi_meaning.specs.Machine.Configuration.{Frame, Called, strict, guard_
 use Rattle.pi_meaning.specs.Machine.Shape.{open_level}
 use Rattle.pi_engine_stands.specs.Here.{Block, block_end, Here, Holds, HoldsArguments, GoesOn}
 use Rattle.pi_engine_stands.specs.Stands.{Loaded, World, tables_in, steps_of, entries_of, back_here, now_here, Agrees, agrees_from, IsCodeOf, IsRuleOf, clause_block, rule_block, CallStands, EntryIs, StackIs, Stands}
-use Rattle.pi_meaning.specs.Machine.Step.{taken, guarding, try_rules, try_facts, try_clauses, back_to}
+use Rattle.pi_meaning.specs.Machine.Step.{taken, guarding, try_rules, try_facts, try_clauses, back_to, trial}
 
 -- the rules of a predicate from one on, with which a call goes on
 pub record RulesLeft (l : Loaded) (p r : ℕ) (called : Called) (cs : List ClauseTree) : Type 0 where
@@ -101,14 +101,14 @@ abbrev pub TakesRule : {M : Type 0} → World M → World M → ℕ → ℕ → 
 TakesRule before after p base frame number again predicate rule now =
     (called : Called) (c : ClauseTree) (cs : List ClauseTree) (s : State) (k : List Frame) (es : List EntryData) (e : Places) →
     Applies before p base frame number called c cs s k es again predicate rule e →
-    Stands after now (taken called c cs (back_to [] s k) es e before.store.now.state)
+    Stands after now (taken (trial called c cs (back_to [] s k) es) e before.store.now.state)
 
 -- the condition of such a rule is entered, by a call that comes back to the present state
 abbrev pub EntersGuard : {M : Type 0} → World M → World M → ℕ → ℕ → ℕ → ℕ → Bool → Predicate → ℕ → Now → Type 0
 EntersGuard before after p base frame number again predicate guard now =
     (rule : Rule) (called : Called) (c : ClauseTree) (cs : List ClauseTree) (s : State) (k : List Frame) (es : List EntryData) (e : Places) →
     Applies before p base frame number called c cs s k es again predicate rule e → rule.guard ≡ Some guard → s ≡ before.store.now.state →
-    Stands after now (guarding c.guard called c cs (back_to [] s k) es e)
+    Stands after now (guarding c.guard (trial called c cs (back_to [] s k) es) e)
 
 -- a level's entry stays, and what lies behind it is given back but for the first so many slots
 pub record ReturnsTo {M : Type 0} (a b : ArenasView M) (number : ℕ) (back : Back) (slots : ℕ) : Type 0 where
@@ -139,7 +139,7 @@ pub record GuardAnswers {M : Type 0} (w : World M) (level : ℕ) (back : Back) (
 abbrev pub TakesGuarded : {M : Type 0} → World M → World M → ℕ → Back → ℕ → ℕ → Now → Type 0
 TakesGuarded before after level back p number now =
     (called : Called) (c : ClauseTree) (cs : List ClauseTree) (s : State) (k : List Frame) (below : List EntryData) (e : Places) →
-    GuardAnswers before level back p number called c cs s k below e → Stands after now (taken called c cs (back_to [] s k) below e before.store.now.state)
+    GuardAnswers before level back p number called c cs s k below e → Stands after now (taken (trial called c cs (back_to [] s k) below) e before.store.now.state)
 
 -- the arenas are the same but for the slots from one on
 pub record KeepsBelow {M : Type 0} (a b : ArenasView M) (limit : ℕ) : Type 0 where
@@ -214,7 +214,7 @@ abbrev pub AppliesRule : {M : Type 0} → World M → World M → ℕ → ℕ �
 AppliesRule before after p base frame number again predicate rule now =
     (called : Called) (c : ClauseTree) (cs : List ClauseTree) (s : State) (k : List Frame) (es : List EntryData) (e : Places) →
     Applies before p base frame number called c cs s k es again predicate rule e → s ≡ before.store.now.state →
-    Stands after now (guarding c.guard called c cs (back_to [] s k) es e)
+    Stands after now (guarding c.guard (trial called c cs (back_to [] s k) es) e)
 
 -- the facts of a call from one on are tried
 abbrev pub TriesFacts : {M : Type 0} → World M → World M → ℕ → ℕ → ℕ → ℕ → Bool → Now → Type 0

@@ -29,7 +29,7 @@ use Rattle.pi_engine_arenas.specs.Blocks.{BlocksView, KeepsBlocks}
 use Rattle.pi_engine_arenas.specs.Arenas.{ArenasView}
 use Rattle.pi_engine_arenas.specs.Frames.{PushesBehind}
 use Rattle.pi_meaning.specs.Machine.Configuration.{Frame, going, raising, behind, returning, Entry as EntryData, in_places}
-use Rattle.pi_meaning.specs.Machine.Step.{goal_step, first_now, unknown_by, goal_called}
+use Rattle.pi_meaning.specs.Machine.Step.{goal_step, first_now, unknown_by, goal_called, with_rest}
 use Rattle.pi_engine_stands.specs.Stands.{World, steps_of, StackStands, StandsGoing}
 use Rattle.pi_engine_stands.specs.Evaluates.{with_blocks, EvaluatesAll}
 use Rattle.pi_engine_stands.specs.Makes.{StandsAfter}
@@ -85,7 +85,7 @@ first-is u (q ∷ rs) r t ts are one = subst (λ x. IsTerm u x t) (sym (one q re
 pub not-callable : {M : Type 0} (w : World M) (u : StoreView M) (b : ArenasView M) (p : Point) (s : Step) (operands arity : ℕ) (rs parts : List Ref) (r : Ref) (name : Option ℕ) (ball : Tree) (view : View) (g : GoalTree) (gs : GoalTrees) (e : Places) (k : List Frame)
     (es : List EntryData) → s.node ≡ Node.CallTerm operands arity → slice_get (steps_of w.loaded) p.place ≡ Some s → (stands : StandsGoing w p (goal g gs) e k es) →
     EvaluatesAll (block_of w p g gs e k es stands) w.store u w.arenas b (term_arguments w operands arity e) rs → name ≡ None → Calls u name rs parts → ((q : Ref) → slice_get rs 0 ≡ Some q → r ≡ q) →
-    ((x : Tree) → IsAcyclic (bindings u.now.state) → IsBall u (Fault.WrongKind FaultKind.Callable r) x → ball ≡ x) → StandsAfter (moved w u b) (Now.Raising ball) (goal_step view w.loaded.preds g gs e w.store.now.state k es)
+    ((x : Tree) → IsAcyclic (bindings u.now.state) → IsBall u (Fault.WrongKind FaultKind.Callable r) x → ball ≡ x) → StandsAfter (moved w u b) (Now.Raising ball) (goal_step view w.loaded.preds g e w.store.now.state (with_rest gs k es))
 not-callable w u b p s operands arity rs parts r name ball view g gs e k es node at stands evaluates none calls first told =
     let all : EvaluatedAll = term_arguments w operands arity e in
     let read : FirstRead u all rs = first-read w u b p s operands arity rs g gs e k es node at stands evaluates in
@@ -122,7 +122,7 @@ stack-there w u b p s operands arity rs g gs e k es stands evaluates state =
 pub not-found : {M : Type 0} (w : World M) (u : StoreView M) (b : ArenasView M) (p : Point) (s : Step) (operands arity : ℕ) (rs parts : List Ref) (name : Option ℕ) (n : ℕ) (ball : Tree) (view : View) (g : GoalTree) (gs : GoalTrees) (e : Places) (k : List Frame)
     (es : List EntryData) → s.node ≡ Node.CallTerm operands arity → slice_get (steps_of w.loaded) p.place ≡ Some s → (stands : StandsGoing w p (goal g gs) e k es) →
     EvaluatesAll (block_of w p g gs e k es stands) w.store u w.arenas b (term_arguments w operands arity e) rs → name ≡ Some n → Calls u name rs parts → NamesAreDistinct u → place_in w.loaded.code.callables n (length parts) ≡ None →
-    ((text : List ℕ) → IsName u n text → ball ≡ unknown_by (map pred_tree (preds_of w.loaded.code)) text (length parts)) → StandsAfter (moved w u b) (Now.Raising ball) (goal_step view w.loaded.preds g gs e w.store.now.state k es)
+    ((text : List ℕ) → IsName u n text → ball ≡ unknown_by (map pred_tree (preds_of w.loaded.code)) text (length parts)) → StandsAfter (moved w u b) (Now.Raising ball) (goal_step view w.loaded.preds g e w.store.now.state (with_rest gs k es))
 not-found w u b p s operands arity rs parts name n ball view g gs e k es node at stands evaluates some calls distinct none told =
     let all : EvaluatedAll = term_arguments w operands arity e in
     let read : FirstRead u all rs = first-read w u b p s operands arity rs g gs e k es node at stands evaluates in
@@ -144,7 +144,7 @@ pub found-runs : {M : Type 0} (w : World M) (u : StoreView M) (b : ArenasView M)
     (k : List Frame) (es : List EntryData) → s.node ≡ Node.CallTerm operands arity → slice_get (steps_of w.loaded) p.place ≡ Some s → (stands : StandsGoing w p (goal g gs) e k es) →
     EvaluatesAll (block_of w p g gs e k es stands) w.store u w.arenas b (term_arguments w operands arity e) rs → name ≡ Some n → Calls u name rs parts → place_in w.loaded.code.callables n (length parts) ≡ Some place →
     PushesBehind p s b.frames fs frame → GivesBack b.blocks c p.base s.is_last → d.slots ≡ c.slots ++ map (λ r. Some r) parts → KeepsBlocks c d → d.kept ≡ c.kept →
-    StandsAfter (moved w u (with_blocks (framed b fs) d)) (Now.Going (named_point place (length c.slots) frame)) (goal_step view w.loaded.preds g gs e w.store.now.state k es)
+    StandsAfter (moved w u (with_blocks (framed b fs) d)) (Now.Going (named_point place (length c.slots) frame)) (goal_step view w.loaded.preds g e w.store.now.state (with_rest gs k es))
 found-runs w u b fs c d p s operands arity rs parts name n place frame view g gs e k es node at stands evaluates some calls there pushes gives new keeps kept =
     let all : EvaluatedAll = term_arguments w operands arity e in
     let read : FirstRead u all rs = first-read w u b p s operands arity rs g gs e k es node at stands evaluates in

@@ -8,7 +8,7 @@ use Rattle.pi_meaning.specs.Shared.Level.{Level}
 use Rattle.pi_meaning.specs.Shared.Given.{Setting}
 use Rattle.pi_meaning.specs.OverNames.Texts.{Names, is_among, is_blank, behind, occurring_all, iterated, unit_places, begins_with_iterator, patterns_of, shared_names, names_inside, kept_names}
 use Rattle.pi_meaning.specs.OverNames.Control.{Goal}
-use Rattle.pi_meaning.specs.OverNames.Loops.{Finish, as_it_is, unit, iterating, turning, hidden}
+use Rattle.pi_meaning.specs.OverNames.Loops.{Finish, as_it_is, unit, iterating, turning, hidden, names_around}
 use Rattle.pi_meaning.specs.OverNames.Goals.{goal_of, units_of, collection_of}
 use Rattle.pi_meaning.proofs.OverNames.LoopNames.{among-append, Within, AreNamed, within-filter}
 use Rattle.pi_rewrite_spec.proofs.AgreeLemmas.{text_same}
@@ -82,13 +82,13 @@ first-leaves set finish before used (exp u us) body begins out m = go (iterated 
     rest : Option ExpTree → Goal
     rest o = units_of set as_it_is (behind (names_inside (before ++ hidden ∷ []) o (occurring_all us ++ used)) (unit_places o u)) (hidden ∷ []) used us body
 
-    go : (o : Option ExpTree) → is_some o ≡ true → LeavesNames m (before ++ hidden ∷ []) (unit finish (before ++ hidden ∷ []) (inside o) (kept_names (before ++ hidden ∷ []) (exp u us) (hidden ∷ [])) o (collection_of set (before ++ hidden ∷ []) u) (goal_of set (before ++ hidden ∷ []) u) (rest o))
+    go : (o : Option ExpTree) → is_some o ≡ true → LeavesNames m (before ++ hidden ∷ []) (unit (names_around finish (before ++ hidden ∷ []) (inside o) (kept_names (before ++ hidden ∷ []) (exp u us) (hidden ∷ []))) o (collection_of set (before ++ hidden ∷ []) u) (goal_of set (before ++ hidden ∷ []) u) (rest o))
     go None some = absurd (false≢true some)
     go (Some e) some =
-        subst (λ (kept : Names). LeavesNames m all (iterating finish all (inside (Some e)) kept e (collection_of set all u) (rest (Some e)))) (sym (kept-hidden before (exp u us) out))
+        subst (λ (kept : Names). LeavesNames m all (iterating (names_around finish all (inside (Some e)) kept) e (collection_of set all u) (rest (Some e)))) (sym (kept-hidden before (exp u us) out))
         (iterating-leaves finish all (inside (Some e)) e (collection_of set all u) (rest (Some e)) m)
 
 pub started-leaves : (set : Setting) (finish : Finish) (before used inside : Names) (us : ExpTrees) (body : Names → Goal) (turns : Goal) (begins : Bool) → begins_with_iterator us ≡ begins → is_among (patterns_of us) hidden ≡ false → (m : Level) →
-    LeavesNames m (before ++ hidden ∷ []) (cond begins (units_of set finish (before ++ hidden ∷ []) (hidden ∷ []) used us body) (turning finish (before ++ hidden ∷ []) inside (hidden ∷ []) turns))
+    LeavesNames m (before ++ hidden ∷ []) (cond begins (units_of set finish (before ++ hidden ∷ []) (hidden ∷ []) used us body) (turning (names_around finish (before ++ hidden ∷ []) inside (hidden ∷ [])) turns))
 started-leaves set finish before used inside us body turns true is out m = first-leaves set finish before used us body is out m
 started-leaves set finish before used inside us body turns false is out m = turning-leaves finish (before ++ hidden ∷ []) inside turns m

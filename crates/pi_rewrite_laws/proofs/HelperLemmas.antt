@@ -19,7 +19,7 @@ use Rattle.pi_meaning.specs.Shared.Level.{Level, Point}
 use Rattle.pi_meaning.specs.CoreMeaning.Builtins.{Builtins, predicate_by}
 use Rattle.pi_meaning.specs.Shared.Given.{Setting}
 use Rattle.pi_meaning.specs.CoreMeaning.Meaning.{calling, meaning}
-use Rattle.pi_meaning.specs.CoreMeaning.Rules.{pred_run, rules, rule_before}
+use Rattle.pi_meaning.specs.CoreMeaning.Rules.{pred_run, rules, rule_before, rule_by}
 use Rattle.pi_meaning.specs.OverNames.Environment.{Environment}
 use Rattle.pi_meaning.specs.OverNames.Place.{Place}
 use Rattle.pi_meaning.specs.OverNames.Texts.{Names, is_among}
@@ -58,7 +58,7 @@ pub helper-runs : (b : Builtins) (inner : Level) (name : List ℕ) (k n m : ℕ)
     pred_run b inner (helper name k (clause_of (slots_head 0 k) body n ∷ [])) None (trees_of vs) s ≡ then (meaning b body (point inner (entered vs m) s)) state_of
 unfolding pred_run rules chosen
 helper-runs b inner name k n m body vs s count is =
-    ap (rule_before b inner (clause_of (slots_head 0 k) body n) false (λ p. then (meaning b body p) state_of) s done)
+    ap (rule_before b inner (rule_by (clause_of (slots_head 0 k) body n) false (λ p. then (meaning b body p) state_of)) s done)
     (ap (λ (j : ℕ). matched_all_in (bindings s) (slots_head 0 j) (trees_of vs) (replicate n None)) (sym count)
     ∙ head-entered (bindings s) vs n m (is ∙ ap (λ (j : ℕ). j + m) (sym count)))
 

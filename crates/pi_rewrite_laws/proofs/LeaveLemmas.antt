@@ -20,7 +20,7 @@ use Rattle.pi_meaning.specs.OverNames.Place.{Place}
 use Rattle.pi_meaning.specs.OverNames.Texts.{Names, is_among}
 use Rattle.pi_meaning.specs.OverNames.Assigning.{place_of, with_names, with_value, carried}
 use Rattle.pi_meaning.specs.OverNames.Control.{Goal, Value}
-use Rattle.pi_meaning.specs.OverNames.Loops.{Finish, now, closed, opened, framed, elements, if_numbered, items_then, iterating, turning, hidden}
+use Rattle.pi_meaning.specs.OverNames.Loops.{Finish, now, closed, opened, framed, elements, if_numbered, items_then, iterating, turning, hidden, names_around}
 use Rattle.pi_meaning.proofs.OverNames.OtherEnvironments.{meant-value}
 use Rattle.pi_rewrite_spec.specs.Slots.{unnamed}
 use Rattle.pi_rewrite_spec.proofs.AgreeLemmas.{or_last, text_itself, text_same, meant-more}
@@ -101,12 +101,12 @@ framed-leaves finish inside turns l p = behind-any (leaves p.names) (turns l (op
 
 -- ---- loops
 
-pub turning-leaves : (finish : Finish) (before inside : Names) (turns : Goal) (l : Level) → LeavesNames l before (turning finish before inside (hidden ∷ []) turns)
+pub turning-leaves : (finish : Finish) (before inside : Names) (turns : Goal) (l : Level) → LeavesNames l before (turning (names_around finish before inside (hidden ∷ [])) turns)
 unfolding turning
 turning-leaves finish before inside turns l p there =
     each-map (leaves (with_names before p).names) (leaves p.names) (λ q left. left-from p.names (with_names before p).names q.names (names-stay before p there) left) _ (framed-leaves finish inside turns l (with_names before p))
 
-pub iterating-leaves : (finish : Finish) (before inside : Names) (pattern : ExpTree) (collection : Value) (body : Goal) (l : Level) → LeavesNames l before (iterating finish before inside (hidden ∷ []) pattern collection body)
+pub iterating-leaves : (finish : Finish) (before inside : Names) (pattern : ExpTree) (collection : Value) (body : Goal) (l : Level) → LeavesNames l before (iterating (names_around finish before inside (hidden ∷ [])) pattern collection body)
 unfolding iterating EachAnswer
 iterating-leaves finish before inside pattern collection body l p there =
     behind-any (leaves p.names) (collection l (carried before start)) _ (λ x. items x (collection_items (bindings x.state) x.tree))

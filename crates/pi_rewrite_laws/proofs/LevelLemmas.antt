@@ -21,7 +21,7 @@ use Rattle.pi_meaning.specs.CoreMeaning.Facts.{fits_modes}
 use Rattle.pi_meaning.specs.OverNames.WrittenRules.{rule_in, rules_of, is_rule_of, head_arguments}
 use Rattle.pi_meaning.specs.OverNames.Stages.{RulesSetting}
 use Rattle.pi_meaning.specs.OverNames.Rules as over_names
-use Rattle.pi_meaning.specs.OverNames.Rules.{function_in, fact_head, is_head_of, rules_named, facts_named, functions_named, modes_named, predicate_run, functions_called, calls_by, level_for}
+use Rattle.pi_meaning.specs.OverNames.Rules.{function_in, fact_head, is_head_of, rules_named, facts_named, functions_named, modes_named, predicate_run, functions_called, calls_by, level_for, call_made}
 use Rattle.pi_rewrite_spec.specs.Lowered.{lowered_rule, lowered_fact, lowered_function}
 use Rattle.pi_rewrite_spec.specs.Forms.{Knows, ArePatterns}
 use Rattle.pi_rewrite_laws.specs.Levels.{SameCalls, SameLevels}
@@ -107,27 +107,27 @@ pub record Fixed (known : Knows) (set : RulesSetting) (b : Builtins) (program : 
 -- a predicate's rules
 rules-run : (known : Knows) (set : RulesSetting) (b : Builtins) (program : ProgramTree) (preds : List PredTree) → Fixed known set b program preds → (inner below above : Option Level) → Ordered known below above → (name : List ℕ) (ts : Trees) (s : State)
     (rs : List RuleTree) → rs ≡ rules_named name (tree_count ts) program → modes_named name (tree_count ts) program ≡ None → is_some_clause (map lowered_rule rs) ≡ true →
-    call_run b inner below (pred_with false name (tree_count ts) None (map lowered_rule rs)) ts s ≡ ticked above (λ l. predicate_run set program l name ts s (modes_named name (tree_count ts) program))
+    call_run b inner below (pred_with false name (tree_count ts) None (map lowered_rule rs)) ts s ≡ ticked above (λ l. predicate_run set program name (call_made l ts s) (modes_named name (tree_count ts) program))
 unfolding pred_run
 rules-run known set b program preds fixed inner below above ordered name ts s [] is none some = absurd (false≢true some)
 rules-run known set b program preds fixed inner below above ordered name ts s (r ∷ rs) is none some =
     ticked-same known below above _ _ ordered (λ l m same core names.
     rules-same known set b l m (fixed.alike l m same core names) (r ∷ rs) (subst (λ (xs : List RuleTree). EachRule known xs) (sym is) (rules-each known name (tree_count ts) program fixed.parts)) (comp name ts) 0 ts s
-    ∙ ap (λ (xs : List RuleTree). over_names.rules_called set (comp name ts) 0 xs m ts s) is
-    ∙ ap (predicate_run set program m name ts s) (sym none))
+    ∙ ap (λ (xs : List RuleTree). over_names.rules_called set (comp name ts) 0 xs (over_names.call_made m ts s)) is
+    ∙ ap (predicate_run set program name (call_made m ts s)) (sym none))
 
 -- its facts, behind the mode lists, at any levels
 pub facts-called : (set : RulesSetting) (program : ProgramTree) (m : Level) (name : List ℕ) (ts : Trees) (s : State) (lists : List (List Mode)) (heads : List ExpTree) →
     heads ≡ facts_named name (tree_count ts) program → EachFact heads → modes_named name (tree_count ts) program ≡ Some lists →
-    over_slots.facts_called lists (map lowered_fact heads) ts s ≡ predicate_run set program m name ts s (modes_named name (tree_count ts) program)
+    over_slots.facts_called lists (map lowered_fact heads) ts s ≡ predicate_run set program name (call_made m ts s) (modes_named name (tree_count ts) program)
 facts-called set program m name ts s lists heads is each modes =
     ap (λ (t : Trace State). cond (list_any (λ ms. fits_modes (bindings s) ms ts) lists) t done) (facts-same heads each ts s)
     ∙ ap (λ (xs : List ExpTree). cond (list_any (λ ms. fits_modes (bindings s) ms ts) lists) (over_names.facts_called xs ts s) done) is
-    ∙ ap (predicate_run set program m name ts s) (sym modes)
+    ∙ ap (predicate_run set program name (call_made m ts s)) (sym modes)
 
 facts-run : (set : RulesSetting) (b : Builtins) (program : ProgramTree) (known : Knows) (inner below above : Option Level) → Ordered known below above → (name : List ℕ) (ts : Trees) (s : State) (lists : List (List Mode)) (heads : List ExpTree) →
     heads ≡ facts_named name (tree_count ts) program → EachFact heads → modes_named name (tree_count ts) program ≡ Some lists → is_some_clause (map lowered_fact heads) ≡ true →
-    call_run b inner below (pred_with false name (tree_count ts) (Some lists) (map lowered_fact heads)) ts s ≡ ticked above (λ l. predicate_run set program l name ts s (modes_named name (tree_count ts) program))
+    call_run b inner below (pred_with false name (tree_count ts) (Some lists) (map lowered_fact heads)) ts s ≡ ticked above (λ l. predicate_run set program name (call_made l ts s) (modes_named name (tree_count ts) program))
 unfolding pred_run
 facts-run set b program known inner below above ordered name ts s lists [] is each modes some = absurd (false≢true some)
 facts-run set b program known inner below above ordered name ts s lists (head ∷ heads) is each modes some =
@@ -137,7 +137,7 @@ facts-run set b program known inner below above ordered name ts s lists (head �
 predicate-runs : (known : Knows) (set : RulesSetting) (b : Builtins) (program : ProgramTree) (preds : List PredTree) → Fixed known set b program preds → (inner below above : Option Level) → Ordered known below above → (name : List ℕ) (ts : Trees) (s : State)
     (m : Option (List (List Mode))) → modes_named name (tree_count ts) program ≡ m → is_some_clause (clauses_by m (rules_named name (tree_count ts) program) (facts_named name (tree_count ts) program)) ≡ true →
     call_run b inner below (pred_with false name (tree_count ts) m (clauses_by m (rules_named name (tree_count ts) program) (facts_named name (tree_count ts) program))) ts s
-    ≡ ticked above (λ l. predicate_run set program l name ts s (modes_named name (tree_count ts) program))
+    ≡ ticked above (λ l. predicate_run set program name (call_made l ts s) (modes_named name (tree_count ts) program))
 predicate-runs known set b program preds fixed inner below above ordered name ts s None is some =
     rules-run known set b program preds fixed inner below above ordered name ts s (rules_named name (tree_count ts) program) refl is some
 predicate-runs known set b program preds fixed inner below above ordered name ts s (Some lists) is some =
@@ -158,7 +158,7 @@ functions-run known set b program preds fixed inner below above ordered name ts 
 -- what calls of what is known do at a level above another one, whichever level their own quiet calls run at
 pub record CallsAre (known : Knows) (set : RulesSetting) (b : Builtins) (program : ProgramTree) (preds : List PredTree) (below above : Option Level) : Type 0 where
   pub called : (inner : Option Level) (name : List ℕ) (ts : Trees) (s : State) → IsTrue (known.predicate name (tree_count ts)) →
-      call_run b inner below (find_pred false name (tree_count ts) preds) ts s ≡ ticked above (λ l. predicate_run set program l name ts s (modes_named name (tree_count ts) program))
+      call_run b inner below (find_pred false name (tree_count ts) preds) ts s ≡ ticked above (λ l. predicate_run set program name (call_made l ts s) (modes_named name (tree_count ts) program))
   pub applied : (inner : Option Level) (name : List ℕ) (ts : Trees) (s : State) → IsTrue (known.function name (tree_count ts)) →
       application_run b inner below (find_pred true name (tree_count ts) preds) ts s ≡ ticked above (λ l. over_names.function_run set program l name ts s)
 

@@ -18,7 +18,7 @@ use Rattle.pi_meaning.specs.Shared.Level.{Level, Point}
 use Rattle.pi_meaning.specs.CoreMeaning.Builtins.{Builtins, predicate_by}
 use Rattle.pi_meaning.specs.Shared.Given.{Setting}
 use Rattle.pi_meaning.specs.CoreMeaning.Meaning.{meaning}
-use Rattle.pi_meaning.specs.CoreMeaning.Rules.{pred_run, rules, rule_before}
+use Rattle.pi_meaning.specs.CoreMeaning.Rules.{pred_run, rules, rule_before, rule_by}
 use Rattle.pi_meaning.specs.OverNames.Environment.{Environment, meant}
 use Rattle.pi_meaning.specs.OverNames.Place.{Place}
 use Rattle.pi_meaning.specs.OverNames.Heads.{pattern_matched}
@@ -77,10 +77,10 @@ walked-long w base e hs given rest i all = omega (arith, given.count, handed-lon
 
 -- one that doesn't match
 passed-over : (b : Builtins) (l : Level) (x : Tree) (vs : List Tree) (k n m : ℕ) (passed : GoalTree) (s : State) → length vs ≡ k → n ≡ suc k + m → (rest : Trace State) →
-    rule_before b l (clause_of (slots_head 0 (suc k)) passed n) false (λ p. then (meaning b passed p) state_of) s rest (matched_all_in (bindings s) (slots_head 0 (suc k)) (tree x (trees_of vs)) (replicate n None))
+    rule_before b l (rule_by (clause_of (slots_head 0 (suc k)) passed n) false (λ p. then (meaning b passed p) state_of)) s rest (matched_all_in (bindings s) (slots_head 0 (suc k)) (tree x (trees_of vs)) (replicate n None))
     ≡ then (meaning b passed (point l (entered (x ∷ vs) m) s)) state_of
 unfolding chosen
-passed-over b l x vs k n m passed s count is rest = ap (rule_before b l (clause_of (slots_head 0 (suc k)) passed n) false (λ p. then (meaning b passed p) state_of) s rest) taken
+passed-over b l x vs k n m passed s count is rest = ap (rule_before b l (rule_by (clause_of (slots_head 0 (suc k)) passed n) false (λ p. then (meaning b passed p) state_of)) s rest) taken
   where
     taken : matched_all_in (bindings s) (slots_head 0 (suc k)) (tree x (trees_of vs)) (replicate n None) ≡ Some (entered (x ∷ vs) m)
     taken =
@@ -96,13 +96,13 @@ first_clause w e0 lb last n =
 turn-answer : (known : Knows) (set : Setting) (b : Builtins) (w : Loop) (e0 : ExpTree) (body others : Goal) (lb : SlotNames → SlotGoals) (l k : Level) → TurnSame known set b w (slot_pattern e0 []) body lb l k → Apart w (turn_front (slot_pattern e0 [])) → (base : ℕ)
     (ends : Place → Trace State) (e : Environment) (hs : List Tree) (rest i all : Tree) (s : State) → Handed w base e hs → (last : GoalTree) (n : ℕ) → length (lb (turn_slots w (slot_pattern e0 []))).names ≤ n →
     LastDoes b l w (slot_pattern e0 []) base n (length (lb (turn_slots w (slot_pattern e0 []))).names) rest i all s last (λ q. then (others k q) ends) → (later : Trace State) → later ≡ then (others k (place e s)) ends → (o : Option Places) (q : Option Environment) → Both (free_room n) (slot_pattern e0 []).names o q →
-    rule_before b l (first_clause w e0 lb last n) false (λ p. then (meaning b (first_clause w e0 lb last n).body p) state_of) s later
+    rule_before b l (rule_by (first_clause w e0 lb last n) false (λ p. then (meaning b (first_clause w e0 lb last n).body p) state_of)) s later
     (option_and_then (matched_all_in (bindings s) (slots_head (length (slot_pattern e0 []).names) (handed w)) (trees_of (walked rest i all hs))) o)
     ≡ then (matched_turn w.shared body others k (place e s) q) ends
 unfolding chosen
 turn-answer known set b w e0 body others lb l k same apart base ends e hs rest i all s given last n room does later passed _ _ neither = passed
 turn-answer known set b w e0 body others lb l k same apart base ends e hs rest i all s given last n enough does later passed _ _ (both_match f slots a) =
-    ap (rule_before b l (first_clause w e0 lb last n) false (λ x. then (meaning b (first_clause w e0 lb last n).body x) state_of) s later) taken
+    ap (rule_before b l (rule_by (first_clause w e0 lb last n) false (λ x. then (meaning b (first_clause w e0 lb last n).body x) state_of)) s later) taken
     ∙ turn-goes-on known set b w p body lb l k same apart base (others k) ends e f us hs rest i all s given (values-count 0 (length p.names) slots) found n m fits enough last does
   where
     p : SlotPattern

@@ -78,7 +78,7 @@ only-calls known set b w body lb m base ends closes is _ _ (in_call l inner k ca
     room = closing-room w.kept (length (lb (loop_slots w)).names)
 
 pub only-same : (known : Knows) (set : Setting) (b : Builtins) (l k : Level) (h : ℕ) → Alike known set b l k → (w : Loop) (before : Names) (body : Goal) (lb : SlotNames → SlotGoals) → AreAmong before w.shared → AreAmong before w.kept → AreAmong w.shared w.kept →
-    Grows (loop_slots w) (lb (loop_slots w)).names → OnlyTurn b (only_turn_helper w lb) (BodySame known set b w body lb) l k → SameGoals b l k h (over_names.turning (finish_of w.ending) before w.shared w.kept (strictly body)) (loop_goals h before w)
+    Grows (loop_slots w) (lb (loop_slots w)).names → OnlyTurn b (only_turn_helper w lb) (BodySame known set b w body lb) l k → SameGoals b l k h (over_names.turning (over_names.names_around (finish_of w.ending) before w.shared w.kept) (strictly body)) (loop_goals h before w)
 only-same known set b l k h alike w before body lb shared kept among grows turn =
     loop-same known set b l k h alike w before (strictly body) shared kept (only_room w lb) m fits
     (λ base e vs s count a. only-calls known set b w body lb m base (endings (finish_of w.ending) w.kept base) (closes-ends known set b w (only_room w lb) base among) fits l k turn e vs s count a)

@@ -22,7 +22,7 @@ use Rattle.pi_meaning.specs.Shared.Level.{Level, level_of, Calls, Applied, Point
 use Rattle.pi_meaning.specs.CoreMeaning.Builtins.{Builtins}
 use Rattle.pi_meaning.specs.CoreMeaning.Meaning.{meaning, strictly}
 use Rattle.pi_meaning.specs.CoreMeaning.Facts.{fits_modes, also_named, with_name, in_front, fact_term, fact_terms, unified_with, facts, facts_called}
-use Rattle.pi_meaning.specs.CoreMeaning.Rules.{guarded, chosen_rule, rule_before, rules, slot_of, suspended, body_or_agent, pred_run, value_at, value_run, function_run, entered, call_run, application_run, calls_of, quiet_level, level_at}
+use Rattle.pi_meaning.specs.CoreMeaning.Rules.{guarded, chosen_rule, rule_before, rules, slot_of, suspended, body_or_agent, pred_run, value_at, value_run, function_run, entered, call_run, application_run, calls_of, quiet_level, level_at, rule_by, rules_by}
 use Rattle.pi_rewrite_laws.specs.Roots.{RootsStay, RootsStayIn, CallsKeepRoots, LevelKeepsRoots}
 use Rattle.pi_rewrite_laws.proofs.ElementLemmas.{roots-stay-itself}
 use Rattle.pi_rewrite_laws.proofs.StayLemmas.{roots-stay-then, new-stays}
@@ -112,10 +112,10 @@ guard-keeps u b n truth p h = each-one (RootsBehind p) p (behind-itself p h)
 guard-keeps u b n g p h = strictly-keeps (meaning b g) (goal-keeps u b n g) p h
 
 rules-keep : UnifyingKeepsRoots → {X : Type 0} (state : X → State) (b : Builtins) → NamesKeepRoots b → (l : Level) → LevelKeepsRoots l → (back : ClauseTree → Bool) (does : ℕ → ClauseTree → Point → Trace X) → (s : State) →
-    ((i : ℕ) (c : ClauseTree) (p : Point) → LevelKeepsRoots p.level → EachAnswer (λ (x : X). RootsStay p.state (state x)) (does i c p)) → (i : ℕ) (cs : List ClauseTree) (ts : Trees) → EachAnswer (λ (x : X). RootsStay s (state x)) (rules b l back does i cs ts s)
+    ((i : ℕ) (c : ClauseTree) (p : Point) → LevelKeepsRoots p.level → EachAnswer (λ (x : X). RootsStay p.state (state x)) (does i c p)) → (i : ℕ) (cs : List ClauseTree) (ts : Trees) → EachAnswer (λ (x : X). RootsStay s (state x)) (rules (rules_by b l back does) i cs ts s)
 unfolding rules EachAnswer
 rules-keep u state b n l h back does s each i [] ts = tt
-rules-keep u {X} state b n l h back does s each i (c ∷ cs) ts = go (rules b l back does (suc i) cs ts s) (rules-keep u state b n l h back does s each (suc i) cs ts) (matched_all_in (bindings s) c.head ts (replicate c.slots None))
+rules-keep u {X} state b n l h back does s each i (c ∷ cs) ts = go (rules (rules_by b l back does) (suc i) cs ts s) (rules-keep u state b n l h back does s each (suc i) cs ts) (matched_all_in (bindings s) c.head ts (replicate c.slots None))
   where
     P : X → Type 0
     P x = RootsStay s (state x)
@@ -124,7 +124,7 @@ rules-keep u {X} state b n l h back does s each i (c ∷ cs) ts = go (rules b l 
     taken rest r t a true = each-alt P t rest a r
     taken rest r t a false = a
 
-    go : (rest : Trace X) → EachAnswer (λ (x : X). RootsStay s (state x)) rest → (o : Option Places) → EachAnswer (λ (x : X). RootsStay s (state x)) (rule_before b l c (back c) (does i c) s rest o)
+    go : (rest : Trace X) → EachAnswer (λ (x : X). RootsStay s (state x)) rest → (o : Option Places) → EachAnswer (λ (x : X). RootsStay s (state x)) (rule_before b l (rule_by c (back c) (does i c)) s rest o)
     go rest r None = r
     go rest r (Some e) =
         let p : Point = record { level = l; slots = e; state = s } in
@@ -160,7 +160,7 @@ pred-keeps u b n l h pred (Some lists) ts s = facts-called-keep u lists pred.cla
 function-keeps : UnifyingKeepsRoots → (b : Builtins) → NamesKeepRoots b → (l : Level) → LevelKeepsRoots l → (pred : PredTree) (ts : Trees) (s : State) → EachAnswer (λ (a : Applied). RootsStay s a.state) (function_run b l pred ts s)
 unfolding function_run raised_with EachAnswer
 function-keeps u b n l h pred ts s =
-    each-chosen (λ a. RootsStay s a.state) (λ a. RootsStay s a.state) (rules b l (λ c. false) (λ i c p. value_run b c p) 0 pred.clauses ts s) (λ a. one a) (raised_with (codes "unresolved_function_call") (comp pred.name ts) s)
+    each-chosen (λ a. RootsStay s a.state) (λ a. RootsStay s a.state) (rules (rules_by b l (λ c. false) (λ i c p. value_run b c p)) 0 pred.clauses ts s) (λ a. one a) (raised_with (codes "unresolved_function_call") (comp pred.name ts) s)
     (rules-keep u (λ a. a.state) b n l h (λ c. false) (λ i c p. value_run b c p) s (λ i c p k. value-keeps u b n c p k) 0 pred.clauses ts) (λ a k. each-one (λ (x : Applied). RootsStay s x.state) a k) tt
 
 -- a level that there may be

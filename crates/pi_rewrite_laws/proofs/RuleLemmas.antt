@@ -21,7 +21,7 @@ use Rattle.pi_meaning.specs.OverNames.Environment.{Environment, Valued}
 use Rattle.pi_meaning.specs.OverNames.Place.{Place}
 use Rattle.pi_meaning.specs.OverNames.WrittenRules.{head_arguments}
 use Rattle.pi_meaning.specs.CoreMeaning.Meaning.{draining, strictly, meaning, meaning_of_all}
-use Rattle.pi_meaning.specs.CoreMeaning.Rules.{guarded, chosen_rule, rule_before, rules, body_or_agent, value_at, value_run}
+use Rattle.pi_meaning.specs.CoreMeaning.Rules.{guarded, chosen_rule, rule_before, rules, body_or_agent, value_at, value_run, rule_by, rules_by}
 use Rattle.pi_meaning.specs.OverNames.Texts.{Names, behind, places}
 use Rattle.pi_meaning.specs.OverNames.Stages.{RulesSetting}
 use Rattle.pi_meaning.specs.OverNames.Control.{strictly as names_strictly}
@@ -29,7 +29,7 @@ use Rattle.pi_meaning.specs.OverNames.Forms.{plain}
 use Rattle.pi_meaning.specs.OverNames.Goals.{goal_of, value_of}
 use Rattle.pi_meaning.specs.OverNames.Heads.{patterns_matched}
 use Rattle.pi_meaning.specs.OverNames.Rules as over_names
-use Rattle.pi_meaning.specs.OverNames.Rules.{places_in, names_before, rule_or_later, rules_called, function_names, body_or_none, applied, function_or_later, functions_called}
+use Rattle.pi_meaning.specs.OverNames.Rules.{places_in, names_before, rule_or_later, rules_called, function_names, body_or_none, applied, function_or_later, functions_called, tried_rule, call_made}
 use Rattle.pi_rewrite_spec.specs.Slots.{SlotNames}
 use Rattle.pi_rewrite_spec.specs.Values.{SlotValue, last_value}
 use Rattle.pi_rewrite_spec.specs.Goals as over_slots
@@ -145,7 +145,7 @@ pub data RuleSame (set : RulesSetting) (b : Builtins) (l m : Level) (r : RuleTre
 rule-answer : (known : Knows) (set : RulesSetting) (b : Builtins) (l m : Level) → Alike known set.calls b l m → (r : RuleTree) (lc lb : SlotNames → SlotGoals) → r.events ≡ [] → GuardSame set b l m (head_slots r.head) (behind [] (places r.head)) r.cond lc →
     SameGoals b l m (head_slots r.head) (goal_of set.calls (names_before r.head r.cond) r.body) lb → (the_call : Tree) (i : ℕ) (s : State) (rest later : Trace State) → rest ≡ later →
     (o : Option Places) (p : Option Environment) → Both (free_room (rule_of r lc lb).slots) (head_forms r.head).names o p →
-    rule_before b l (rule_of r lc lb) r.back (λ q. body_or_agent b the_call i (rule_of r lc lb) [] q) s rest o ≡ rule_or_later set the_call i r m s later p
+    rule_before b l (rule_by (rule_of r lc lb) r.back (λ q. body_or_agent b the_call i (rule_of r lc lb) [] q)) s rest o ≡ rule_or_later set (tried_rule the_call i r) m s later p
 rule-answer known set b l m alike r lc lb events guard body the_call i s rest later e _ _ neither = e
 rule-answer known set b l m alike r lc lb events guard body the_call i s rest later e _ _ (both_match names slots a) =
     same-equal _ _ (same-chosen (AtPlace l n h ms) Same _ _ _ _ _ _
@@ -153,7 +153,7 @@ rule-answer known set b l m alike r lc lb events guard body the_call i s rest la
     (λ p q at. same-equals _ _ (ap (λ (t : Trace State). chosen_rule r.back t rest) (rule-body set b l m h alike.core_drains (names_before r.head r.cond) r.body lb body n ms (omega arith) p q at)
     ∙ ap (chosen_rule r.back (then (goal_of set.calls (names_before r.head r.cond) r.body m q) (λ x. one x.state))) e))
     (same-equals _ _ e))
-    ∙ ap (λ (es : List ExpTree). chosen (over_names.guarded set (behind [] (places r.head)) r.cond m (place names s)) (λ q. chosen_rule (over_names.leaves_later r es) (over_names.body_or_agent set the_call i r es m q) later) later) (sym events)
+    ∙ ap (λ (es : List ExpTree). chosen (over_names.guarded set (behind [] (places r.head)) r.cond m (place names s)) (λ q. chosen_rule (over_names.leaves_later r es) (over_names.body_or_agent set (over_names.tried_rule the_call i r) es m q) later) later) (sym events)
   where
     h : ℕ
     h = head_slots r.head
@@ -176,12 +176,12 @@ pub data RulesSame (set : RulesSetting) (b : Builtins) (l m : Level) : List Rule
   more_rules : (r : RuleTree) (rs : List RuleTree) (c : ClauseTree) (cs : List ClauseTree) → RuleSame set b l m r c → RulesSame set b l m rs cs → RulesSame set b l m (r ∷ rs) (c ∷ cs)
 
 pub clauses-same : (known : Knows) (set : RulesSetting) (b : Builtins) (l m : Level) → Alike known set.calls b l m → (rs : List RuleTree) (cs : List ClauseTree) → RulesSame set b l m rs cs → (the_call : Tree) (i : ℕ) (ts : Trees) (s : State) →
-    rules b l (λ c. backtracks c.back c.watches) (λ i c p. body_or_agent b the_call i c c.watches p) i cs ts s ≡ rules_called set the_call i rs m ts s
+    rules (rules_by b l (λ c. backtracks c.back c.watches) (λ i c p. body_or_agent b the_call i c c.watches p)) i cs ts s ≡ rules_called set the_call i rs (call_made m ts s)
 unfolding rules rules_called
 clauses-same known set b l m alike _ _ no_rules the_call i ts s = refl
 clauses-same known set b l m alike _ _ (more_rules r rs _ cs (same_rule lc lb head events guard body) rest) the_call i ts s =
     rule-answer known set b l m alike r lc lb events guard body the_call i s
-    (rules b l (λ c. backtracks c.back c.watches) (λ i c p. body_or_agent b the_call i c c.watches p) (suc i) cs ts s) (rules_called set the_call (suc i) rs m ts s)
+    (rules (rules_by b l (λ c. backtracks c.back c.watches) (λ i c p. body_or_agent b the_call i c c.watches p)) (suc i) cs ts s) (rules_called set the_call (suc i) rs (call_made m ts s))
     (clauses-same known set b l m alike rs cs rest the_call (suc i) ts s) _ _ (head-tried s r.head head (rule_of r lc lb).slots (rule-room set b l m r lc lb guard body) ts)
 
 -- ---- functions, of what their parts are lowered to
@@ -214,7 +214,7 @@ run-same known set b l m alike f lc lb lv is n ns room _ _ (at_place e slots s a
 
 function-answer : (known : Knows) (set : RulesSetting) (b : Builtins) (l m : Level) → Alike known set.calls b l m → (f : FunctionTree) (lc lb : SlotNames → SlotGoals) (lv : SlotNames → SlotValue) → FunctionParts set b l m f lc lb lv → (s : State) (rest later : Trace Applied) →
     rest ≡ later → (o : Option Places) (p : Option Environment) → Both (free_room (function_of f lc lb lv).slots) (head_forms f.head).names o p →
-    rule_before b l (function_of f lc lb lv) false (λ q. value_run b (function_of f lc lb lv) q) s rest o ≡ function_or_later set f m s later p
+    rule_before b l (rule_by (function_of f lc lb lv) false (λ q. value_run b (function_of f lc lb lv) q)) s rest o ≡ function_or_later set f m s later p
 function-answer known set b l m alike f lc lb lv is s rest later e _ _ neither = e
 function-answer known set b l m alike f lc lb lv is s rest later e _ _ (both_match names slots a) =
     same-equal _ _ (same-chosen (AtPlace l n h ms) Same _ _ _ _ _ _
@@ -250,11 +250,11 @@ pub data FunctionsSame (set : RulesSetting) (b : Builtins) (l m : Level) : List 
   more_functions : (f : FunctionTree) (fs : List FunctionTree) (cs : List ClauseTree) (lc lb : SlotNames → SlotGoals) (lv : SlotNames → SlotValue) → FunctionParts set b l m f lc lb lv → FunctionsSame set b l m fs cs → FunctionsSame set b l m (f ∷ fs) (function_of f lc lb lv ∷ cs)
 
 pub values-same : (known : Knows) (set : RulesSetting) (b : Builtins) (l m : Level) → Alike known set.calls b l m → (fs : List FunctionTree) (cs : List ClauseTree) → FunctionsSame set b l m fs cs → (i : ℕ) (ts : Trees) (s : State) →
-    rules b l (λ c. false) (λ i c p. value_run b c p) i cs ts s ≡ functions_called set fs m ts s
+    rules (rules_by b l (λ c. false) (λ i c p. value_run b c p)) i cs ts s ≡ functions_called set fs m ts s
 unfolding rules functions_called
 values-same known set b l m alike _ _ no_functions i ts s = refl
 values-same known set b l m alike _ _ (more_functions f fs cs lc lb lv is rest) i ts s =
-    function-answer known set b l m alike f lc lb lv is s (rules b l (λ c. false) (λ i c p. value_run b c p) (suc i) cs ts s) (functions_called set fs m ts s) (values-same known set b l m alike fs cs rest (suc i) ts s) _ _
+    function-answer known set b l m alike f lc lb lv is s (rules (rules_by b l (λ c. false) (λ i c p. value_run b c p)) (suc i) cs ts s) (functions_called set fs m ts s) (values-same known set b l m alike fs cs rest (suc i) ts s) _ _
     (head-tried s f.head is.head (function_of f lc lb lv).slots (function-room set b l m f lc lb lv is) ts)
 
 -- ---- lowered rules and functions
@@ -280,7 +280,7 @@ rules-lowered known set b l m alike (r ∷ rs) is =
     (goal-same known set.calls b l m h alike (names_before r.head r.cond) r.body is.0.body)) (rules-lowered known set b l m alike rs is.1)
 
 pub rules-same : (known : Knows) (set : RulesSetting) (b : Builtins) (l m : Level) → Alike known set.calls b l m → (rs : List RuleTree) → EachRule known rs → (the_call : Tree) (i : ℕ) (ts : Trees) (s : State) →
-    rules b l (λ c. backtracks c.back c.watches) (λ i c p. body_or_agent b the_call i c c.watches p) i (map lowered_rule rs) ts s ≡ rules_called set the_call i rs m ts s
+    rules (rules_by b l (λ c. backtracks c.back c.watches) (λ i c p. body_or_agent b the_call i c c.watches p)) i (map lowered_rule rs) ts s ≡ rules_called set the_call i rs (call_made m ts s)
 rules-same known set b l m alike rs is the_call i ts s = clauses-same known set b l m alike rs (map lowered_rule rs) (rules-lowered known set b l m alike rs is) the_call i ts s
 
 abbrev pub EachFunction : Knows → List FunctionTree → Type 0
@@ -301,5 +301,5 @@ functions-lowered known set b l m alike (f ∷ fs) is =
     }) (functions-lowered known set b l m alike fs is.1)
 
 pub functions-same : (known : Knows) (set : RulesSetting) (b : Builtins) (l m : Level) → Alike known set.calls b l m → (fs : List FunctionTree) → EachFunction known fs → (i : ℕ) (ts : Trees) (s : State) →
-    rules b l (λ c. false) (λ i c p. value_run b c p) i (map lowered_function fs) ts s ≡ functions_called set fs m ts s
+    rules (rules_by b l (λ c. false) (λ i c p. value_run b c p)) i (map lowered_function fs) ts s ≡ functions_called set fs m ts s
 functions-same known set b l m alike fs is i ts s = values-same known set b l m alike fs (map lowered_function fs) (functions-lowered known set b l m alike fs is) i ts s

@@ -17,7 +17,7 @@ use Rattle.pi_meaning.specs.CoreMeaning.Rules.{pred_run, function_run, call_run,
 use Rattle.pi_meaning.specs.OverNames.Texts.{behind, places}
 use Rattle.pi_meaning.specs.OverNames.Stages.{RulesSetting}
 use Rattle.pi_meaning.specs.OverNames.Rules as over_names
-use Rattle.pi_meaning.specs.OverNames.Rules.{places_in, names_before, function_names, rules_named, facts_named, functions_named, modes_named, predicate_run, functions_called, body_or_none, level_for}
+use Rattle.pi_meaning.specs.OverNames.Rules.{places_in, names_before, function_names, rules_named, facts_named, functions_named, modes_named, predicate_run, functions_called, body_or_none, level_for, call_made}
 use Rattle.pi_meaning.proofs.OverNames.LoopNames.{AreNamed, behind-named}
 use Rattle.pi_rewrite_spec.specs.Values.{last_value}
 use Rattle.pi_rewrite_spec.specs.Forms.{Knows}
@@ -137,11 +137,11 @@ fixture known set b program preds most = record { known = known; set = set; buil
 -- ---- calls, at a level below which what is called does the same
 
 called-lowest : (c : Fixture) (called : Naming) (inner : Option Level) (name : List ℕ) (ts : Trees) (s : State) → PredicateAt c called name (tree_count ts) →
-    call_run c.builtins inner None (find_pred false name (tree_count ts) c.preds) ts s ≡ ticked None (λ l. predicate_run c.set c.program l name ts s (modes_named name (tree_count ts) c.program))
+    call_run c.builtins inner None (find_pred false name (tree_count ts) c.preds) ts s ≡ ticked None (λ l. predicate_run c.set c.program name (call_made l ts s) (modes_named name (tree_count ts) c.program))
 called-lowest c called inner name ts s (of_rules r rs cs named found at none) = ap (λ (o : Option PredTree). call_run c.builtins inner None o ts s) found ∙ go cs at
   where
     go : (cs : List ClauseTree) → RulesAt c called (r ∷ rs) cs →
-        call_run c.builtins inner None (pred_with false name (tree_count ts) None cs) ts s ≡ ticked None (λ l. predicate_run c.set c.program l name ts s (modes_named name (tree_count ts) c.program))
+        call_run c.builtins inner None (pred_with false name (tree_count ts) None cs) ts s ≡ ticked None (λ l. predicate_run c.set c.program name (call_made l ts s) (modes_named name (tree_count ts) c.program))
     go _ (one_more n r rs cs is few helpers rest) = refl
 called-lowest c called inner name ts s (of_facts lists head heads named found each modes) = ap (λ (o : Option PredTree). call_run c.builtins inner None o ts s) found
 
@@ -155,18 +155,18 @@ applied-lowest c called inner name ts s has = ap (λ (o : Option PredTree). appl
 
 called-over : (c : Fixture) (each : AlikeUpTo c) (called : Naming) (w : Here c) → length c.preds ≤ w.calls → (inner : Option Level) (name : List ℕ) (ts : Trees) (s : State) → PredicateAt c called name (tree_count ts) →
     call_run c.builtins inner (Some (slots_level c w)) (find_pred false name (tree_count ts) c.preds) ts s
-    ≡ ticked (Some (names_level c w)) (λ l. predicate_run c.set c.program l name ts s (modes_named name (tree_count ts) c.program))
+    ≡ ticked (Some (names_level c w)) (λ l. predicate_run c.set c.program name (call_made l ts s) (modes_named name (tree_count ts) c.program))
 unfolding pred_run
 called-over c each called w all inner name ts s (of_rules first others clauses named found at none) = ap (λ (o : Option PredTree). call_run c.builtins inner (Some (slots_level c w)) o ts s) found ∙ go first others clauses at named
   where
     go : (r : RuleTree) (rs : List RuleTree) (cs : List ClauseTree) → RulesAt c called (r ∷ rs) cs → rules_named name (tree_count ts) c.program ≡ r ∷ rs →
         call_run c.builtins inner (Some (slots_level c w)) (pred_with false name (tree_count ts) None cs) ts s
-        ≡ ticked (Some (names_level c w)) (λ l. predicate_run c.set c.program l name ts s (modes_named name (tree_count ts) c.program))
+        ≡ ticked (Some (names_level c w)) (λ l. predicate_run c.set c.program name (call_made l ts s) (modes_named name (tree_count ts) c.program))
     go _ _ _ (one_more n r rs cs is few helpers rest) named =
         ap (note Tick)
         (clauses-same c.known c.set c.builtins (slots_level c w) (names_level c w) (alike-here c each w) (r ∷ rs) (written_rule called n r ∷ cs) (rules-written c each called w all (r ∷ rs) _ (one_more n r rs cs is few helpers rest)) (comp name ts) 0 ts s
-        ∙ ap (λ (xs : List RuleTree). over_names.rules_called c.set (comp name ts) 0 xs (names_level c w) ts s) (sym named)
-        ∙ ap (predicate_run c.set c.program (names_level c w) name ts s) (sym none))
+        ∙ ap (λ (xs : List RuleTree). over_names.rules_called c.set (comp name ts) 0 xs (over_names.call_made (names_level c w) ts s)) (sym named)
+        ∙ ap (predicate_run c.set c.program name (call_made (names_level c w) ts s)) (sym none))
 called-over c each called w all inner name ts s (of_facts lists head heads named found is modes) =
     ap (λ (o : Option PredTree). call_run c.builtins inner (Some (slots_level c w)) o ts s) found
     ∙ ap (note Tick) (facts-called c.set c.program (names_level c w) name ts s lists (head ∷ heads) (sym named) is modes)

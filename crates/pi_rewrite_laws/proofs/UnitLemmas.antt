@@ -69,7 +69,7 @@ iterator-unit : (c : Fixture) (each : AlikeUpTo c) (w : Here c) (s : Site) (endi
     (helpers : Site → Ending → List PredTree) (over : List PredTree) → Collected c w s u (is_range u) → RestAt c i us nbody lbody helpers →
     Stands c w s ((helpers_in u + (helpers_in_units us + 2)) + i.count)
     (iterated_helpers s ending i u us e over (helpers (elements_of s (iterator_loop s ending i u us e) u e) as_it_is) (written.units (elements_of s (iterator_loop s ending i u us e) u e) as_it_is i us lbody)) →
-    SameGoals c.builtins (slots_level c w) (names_level c w) s.filled (over_names.iterating (finish_of ending) s.before (names_inside s.before (Some e) (occurring_all us ++ i.used)) (kept_names s.before (exp u us) i.assigned) e (collection_of c.set.calls s.before u)
+    SameGoals c.builtins (slots_level c w) (names_level c w) s.filled (over_names.iterating (over_names.names_around (finish_of ending) s.before (names_inside s.before (Some e) (occurring_all us ++ i.used)) (kept_names s.before (exp u us) i.assigned)) e (collection_of c.set.calls s.before u)
     (units_of c.set.calls over_names.as_it_is (behind (names_inside s.before (Some e) (occurring_all us ++ i.used)) (places e)) i.assigned i.used us nbody))
     (λ ms. gone_over (is_range u) s.filled s.before (iterator_loop s ending i u us e) (written.bounds_of s u) (written.collection_of s u) ms)
 iterator-unit c each w s ending i u us e is pattern within nbody lbody helpers over collection rest st = go (is_range u) collection (have-last c ps (own (is_range u)) (have-last c over (ps ++ own (is_range u)) st.has))
@@ -115,7 +115,7 @@ iterator-unit c each w s ending i u us e is pattern within nbody lbody helpers o
     among = kept-among-inside s.before u us e i.assigned used (within-behind i.assigned (occurring_all us) i.used within) (apart-first u us e is)
 
     go : (r : Bool) → Collected c w s u r → HaveHelpers c (own r) →
-        SameGoals c.builtins (slots_level c w) (names_level c w) s.filled (over_names.iterating (finish_of ending) s.before (names_inside s.before (Some e) (occurring_all us ++ i.used)) (kept_names s.before (exp u us) i.assigned) e (collection_of c.set.calls s.before u) body)
+        SameGoals c.builtins (slots_level c w) (names_level c w) s.filled (over_names.iterating (over_names.names_around (finish_of ending) s.before (names_inside s.before (Some e) (occurring_all us ++ i.used)) (kept_names s.before (exp u us) i.assigned)) e (collection_of c.set.calls s.before u) body)
         (λ ms. gone_over r s.filled s.before (iterator_loop s ending i u us e) (written.bounds_of s u) (written.collection_of s u) ms)
     go false (by_value collected) two =
         iterator-same c.known c.set.calls c.builtins (slots_level c w) (names_level c w) s.filled (alike-here c each w) loop turn s.before e pattern (collection_of c.set.calls s.before u) (written.collection_of s u) collected body lb (inside-among s.before (Some e) used st.named) (kept-before s.before (exp u us) i.assigned) among
@@ -123,7 +123,7 @@ iterator-unit c each w s ending i u us e is pattern within nbody lbody helpers o
         (walks-at c.builtins c.preds c.set c.program c.most (element_helper turn loop) (turn_helper turn loop e lb) two.0 two.1.0 (TurnSame c.known c.set.calls c.builtins loop (slot_pattern e []) body lb) rank (omega (arith, st.fits)) turns w.depth w.calls w.up
         (omega (arith, st.few)))
     go true (by_range vs same bounds collected) two =
-        subst (λ (v : Value). SameGoals c.builtins (slots_level c w) (names_level c w) s.filled (over_names.iterating (finish_of ending) s.before loop.shared loop.kept e v body) (range_goals s.filled s.before loop (written.bounds_of s u))) (sym same)
+        subst (λ (v : Value). SameGoals c.builtins (slots_level c w) (names_level c w) s.filled (over_names.iterating (over_names.names_around (finish_of ending) s.before loop.shared loop.kept) e v body) (range_goals s.filled s.before loop (written.bounds_of s u))) (sym same)
         (range-same c.known c.set.calls c.builtins (slots_level c w) (names_level c w) s.filled (alike-here c each w) loop turn s.before e pattern vs (written.bounds_of s u) bounds collected body lb (inside-among s.before (Some e) used st.named) (kept-before s.before (exp u us) i.assigned) among (pattern-apart loop s.before e used refl)
         (steps-at c.builtins c.preds c.set c.program c.most (range_helper turn loop) (step_helper turn loop e lb) two.0 two.1.0 (TurnSame c.known c.set.calls c.builtins loop (slot_pattern e []) body lb) rank (omega (arith, st.fits)) turns w.depth w.calls w.up
         (omega (arith, st.few))))
@@ -136,7 +136,7 @@ pub unit-same : (c : Fixture) (each : AlikeUpTo c) (w : Here c) (s : Site) (endi
     Stands c w s ((helpers_in u + (helpers_in_units us + iterator_helpers o)) + i.count)
     (unit_helpers o (λ e. iterated_helpers s ending i u us e over (helpers (elements_of s (iterator_loop s ending i u us e) u e) as_it_is) (written.units (elements_of s (iterator_loop s ending i u us e) u e) as_it_is i us lbody))
     (test ++ helpers (behind_exp s u) as_it_is)) →
-    SameGoals c.builtins (slots_level c w) (names_level c w) s.filled (over_names.unit (finish_of ending) s.before (names_inside s.before o (occurring_all us ++ i.used)) (kept_names s.before (exp u us) i.assigned) o (collection_of c.set.calls s.before u) (goal_of c.set.calls s.before u)
+    SameGoals c.builtins (slots_level c w) (names_level c w) s.filled (over_names.unit (over_names.names_around (finish_of ending) s.before (names_inside s.before o (occurring_all us ++ i.used)) (kept_names s.before (exp u us) i.assigned)) o (collection_of c.set.calls s.before u) (goal_of c.set.calls s.before u)
     (units_of c.set.calls over_names.as_it_is (behind (names_inside s.before o (occurring_all us ++ i.used)) (unit_places o u)) i.assigned i.used us nbody))
     (unit_goals o (λ e ms. gone_over (is_range u) s.filled s.before (iterator_loop s ending i u us e) (written.bounds_of s u) (written.collection_of s u) ms) (λ ms. tested (written.goal_of s u ms) (written.units (behind_exp s u) as_it_is i us lbody)))
 unit-same c each w s ending i u us collected tests within nbody lbody helpers over test collection condition rest None is fits st =
@@ -161,7 +161,7 @@ pub started-same : (c : Fixture) (each : AlikeUpTo c) (w : Here c) (s : Site) (e
     Stands c w s ((helpers_in_units us + i.count) + cond begins 0 1)
     (started_helpers begins helpers (λ t. written.units t as_it_is i us lbody) s (start_loop s ending kept i us)) →
     SameGoals c.builtins (slots_level c w) (names_level c w) s.filled (cond begins (units_of c.set.calls (finish_of ending) s.before i.assigned i.used us nbody)
-    (over_names.turning (finish_of ending) s.before (shared_names s.before (occurring_all us ++ i.used)) kept (strictly (units_of c.set.calls over_names.as_it_is (shared_names s.before (occurring_all us ++ i.used)) i.assigned i.used us nbody))))
+    (over_names.turning (over_names.names_around (finish_of ending) s.before (shared_names s.before (occurring_all us ++ i.used)) kept) (strictly (units_of c.set.calls over_names.as_it_is (shared_names s.before (occurring_all us ++ i.used)) i.assigned i.used us nbody))))
     (started_goals begins (written.units s ending i us lbody) s (start_loop s ending kept i us))
 started-same c each w s ending kept i us nbody lbody helpers stand among rest true st =
     rest w s ending (record { named = st.named; few = omega (arith, st.few); fits = omega (arith, st.fits); has = st.has })

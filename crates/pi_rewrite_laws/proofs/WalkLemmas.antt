@@ -17,7 +17,7 @@ use Rattle.pi_meaning.specs.Traces.Control.{chosen}
 use Rattle.pi_meaning.specs.Shared.Level.{Level, lower, Point}
 use Rattle.pi_meaning.specs.CoreMeaning.Builtins.{Builtins, predicate_by}
 use Rattle.pi_meaning.specs.CoreMeaning.Meaning.{meaning}
-use Rattle.pi_meaning.specs.CoreMeaning.Rules.{pred_run, rules, rule_before}
+use Rattle.pi_meaning.specs.CoreMeaning.Rules.{pred_run, rules, rule_before, rule_by}
 use Rattle.pi_meaning.specs.OverNames.Environment.{Environment}
 use Rattle.pi_rewrite_spec.specs.Loops.{slots_from, slots_head, Loop}
 use Rattle.pi_rewrite_spec.specs.Iterators.{handed, tick_then, cell_clause, nil_clause, array_clause, element_helper}
@@ -83,7 +83,7 @@ cell-runs : (b : Builtins) (l : Level) (w : Loop) (turn : List ℕ) (base : ℕ)
     pred_run b l (element_helper turn w) None (trees_of (walked t i all hs)) s ≡ then (meaning b (tick_then (GoalTree.call turn (slots_from 0 (suc (handed w))) ∷ [])) (point l (entered (x ∷ walked r i all hs) 0) s)) state_of
 unfolding pred_run rules chosen
 cell-runs b l w turn base e hs given t x r i all s root =
-    ap (rule_before b l (cell_clause turn w) false (λ p. then (meaning b (cell_clause turn w).body p) state_of) s _)
+    ap (rule_before b l (rule_by (cell_clause turn w) false (λ p. then (meaning b (cell_clause turn w).body p) state_of)) s _)
     (cell-head (bindings s) t x r (i ∷ all ∷ hs) (suc (handed w)) (handed w - 1) root (shorter w base e hs given i all) (omega (arith, handed-long w)))
 
 -- the end of a list
@@ -91,17 +91,17 @@ pub nil-runs : (b : Builtins) (l : Level) (w : Loop) (turn : List ℕ) (base : �
     pred_run b l (element_helper turn w) None (trees_of (walked t i all hs)) s ≡ then (meaning b (nil_clause w).body (point l (entered (i ∷ all ∷ hs) m) s)) state_of
 unfolding pred_run rules chosen
 nil-runs b l w turn base e hs given t i all s m root is =
-    ap (rule_before b l (cell_clause turn w) false (λ p. then (meaning b (cell_clause turn w).body p) state_of) s _) (no-cell-atom (bindings s) t (trees_of (i ∷ all ∷ hs)) nil (suc (handed w)) (handed w - 1) root)
-    ∙ ap (rule_before b l (nil_clause w) false (λ p. then (meaning b (nil_clause w).body p) state_of) s _) (nil-head (bindings s) t (i ∷ all ∷ hs) (nil_clause w).slots m (handed w - 1) root (shorter w base e hs given i all) is)
+    ap (rule_before b l (rule_by (cell_clause turn w) false (λ p. then (meaning b (cell_clause turn w).body p) state_of)) s _) (no-cell-atom (bindings s) t (trees_of (i ∷ all ∷ hs)) nil (suc (handed w)) (handed w - 1) root)
+    ∙ ap (rule_before b l (rule_by (nil_clause w) false (λ p. then (meaning b (nil_clause w).body p) state_of)) s _) (nil-head (bindings s) t (i ∷ all ∷ hs) (nil_clause w).slots m (handed w - 1) root (shorter w base e hs given i all) is)
 
 -- an array
 pub array-runs : (b : Builtins) (l : Level) (w : Loop) (turn : List ℕ) (base : ℕ) (e : Environment) (hs : List Tree) → Handed w base e hs → (t i all : Tree) (us : Trees) (s : State) (m : ℕ) → followed (bindings s) t ≡ comp array_name us → (array_clause turn w).slots ≡ handed w + m →
     pred_run b l (element_helper turn w) None (trees_of (walked t i all hs)) s ≡ then (meaning b (array_clause turn w).body (point l (entered (walked t i all hs) m) s)) state_of
 unfolding pred_run rules chosen
 array-runs b l w turn base e hs given t i all us s m root is =
-    ap (rule_before b l (cell_clause turn w) false (λ p. then (meaning b (cell_clause turn w).body p) state_of) s _) (no-cell-array (bindings s) t (trees_of (i ∷ all ∷ hs)) us (suc (handed w)) (handed w - 1) root)
-    ∙ ap (rule_before b l (nil_clause w) false (λ p. then (meaning b (nil_clause w).body p) state_of) s _) (no-nil (bindings s) t (trees_of (i ∷ all ∷ hs)) us array_name (nil_clause w).slots (handed w - 1) root)
-    ∙ ap (rule_before b l (array_clause turn w) false (λ p. then (meaning b (array_clause turn w).body p) state_of) s done)
+    ap (rule_before b l (rule_by (cell_clause turn w) false (λ p. then (meaning b (cell_clause turn w).body p) state_of)) s _) (no-cell-array (bindings s) t (trees_of (i ∷ all ∷ hs)) us (suc (handed w)) (handed w - 1) root)
+    ∙ ap (rule_before b l (rule_by (nil_clause w) false (λ p. then (meaning b (nil_clause w).body p) state_of)) s _) (no-nil (bindings s) t (trees_of (i ∷ all ∷ hs)) us array_name (nil_clause w).slots (handed w - 1) root)
+    ∙ ap (rule_before b l (rule_by (array_clause turn w) false (λ p. then (meaning b (array_clause turn w).body p) state_of)) s done)
     (ap (λ (j : ℕ). matched_all_in (bindings s) (slots_head 0 j) (trees_of (walked t i all hs)) (replicate (array_clause turn w).slots None)) (sym (walked-long w base e hs given t i all))
     ∙ head-entered (bindings s) (walked t i all hs) (array_clause turn w).slots m (is ∙ ap (λ (j : ℕ). j + m) (sym (walked-long w base e hs given t i all))))
 

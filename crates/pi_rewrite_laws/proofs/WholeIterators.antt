@@ -110,7 +110,7 @@ behind-same known set b l k h alike w turn before e0 is-pattern body lb shared k
 pub iterator-same : (known : Knows) (set : Setting) (b : Builtins) (l k : Level) (h : ℕ) → Alike known set b l k → (w : Loop) (turn : List ℕ) (before : Names) (e0 : ExpTree) → IsPattern e0 → (collection : Value) (lc : SlotNames → SlotValue) → SameLast b l k h collection lc →
     (body : Goal) (lb : SlotNames → SlotGoals) → AreAmong before w.shared → AreAmong before w.kept → AreAmong w.shared w.kept → Apart w (turn_front (slot_pattern e0 [])) →
     Walks b (element_helper turn w) (turn_helper turn w e0 lb) (TurnSame known set b w (slot_pattern e0 []) body lb) l k →
-    SameGoals b l k h (over_names.iterating (finish_of w.ending) before w.shared w.kept e0 collection body) (iterator_goals h before w lc)
+    SameGoals b l k h (over_names.iterating (over_names.names_around (finish_of w.ending) before w.shared w.kept) e0 collection body) (iterator_goals h before w lc)
 unfolding over_names.iterating EachAnswer
 iterator-same known set b l k h alike w turn before e0 is-pattern collection lc is body lb shared kept among apart walks = record {
   grows = λ ns. grows-then ns _ _ (started-grows known set b l k h alike before ns) (grows-then (started h before ns).names _ _ (by _) (values-grow w.kept (gone_over (started h before ns).names (lc (only before (started h before ns).names)))));

@@ -160,7 +160,7 @@ CallsTurns b l k w turns size m = (base : ℕ) (e : Environment) (vs : List Tree
     predicate_by b l w.name (trees_of vs) s ≡ then (turns k (place e s)) (endings (finish_of w.ending) w.kept base)
 
 pub loop-same : (known : Knows) (set : Setting) (b : Builtins) (l k : Level) (h : ℕ) → Alike known set b l k → (w : Loop) (before : Names) (turns : Goal) → AreAmong before w.shared → AreAmong before w.kept → (size m : ℕ) → size ≡ length (loop_slots w) + m →
-    CallsTurns b l k w turns size m → SameGoals b l k h (over_names.turning (finish_of w.ending) before w.shared w.kept turns) (loop_goals h before w)
+    CallsTurns b l k w turns size m → SameGoals b l k h (over_names.turning (over_names.names_around (finish_of w.ending) before w.shared w.kept) turns) (loop_goals h before w)
 unfolding over_names.turning EachAnswer AreFilled
 loop-same known set b l k h alike w before turns shared kept size m is calls = record {
   grows = λ ns. grows-then ns _ _ (started-grows known set b l k h alike before ns) (values-grow w.kept (started h before ns).names);
@@ -190,7 +190,7 @@ loop-same known set b l k h alike w before turns shared kept size m is calls = r
 
 pub while-same : (known : Knows) (set : Setting) (b : Builtins) (l k : Level) (h : ℕ) → Alike known set b l k → (w : Loop) (before : Names) (test body : Goal) (lt lb : SlotNames → SlotGoals) →
     AreAmong before w.shared → AreAmong before w.kept → AreAmong w.shared w.kept → Grows (loop_slots w) (while_slots w lt lb) → Turns b (while_helper w lt lb) (PartsSame known set b w test body lt lb) l k →
-    SameGoals b l k h (over_names.turning (finish_of w.ending) before w.shared w.kept (over_names.while_turns w.shared test body)) (loop_goals h before w)
+    SameGoals b l k h (over_names.turning (over_names.names_around (finish_of w.ending) before w.shared w.kept) (over_names.while_turns w.shared test body)) (loop_goals h before w)
 while-same known set b l k h alike w before test body lt lb shared kept among grows turns =
     loop-same known set b l k h alike w before (over_names.while_turns w.shared test body) shared kept (while_room w lt lb) m fits
     (λ base e vs s count a. while-calls known set b w test body lt lb m base (endings (finish_of w.ending) w.kept base) (closes-ends known set b w (while_room w lt lb) base among) fits l k turns e vs s count a)
@@ -203,7 +203,7 @@ while-same known set b l k h alike w before test body lt lb shared kept among gr
 
 pub do-same : (known : Knows) (set : Setting) (b : Builtins) (l k : Level) (h : ℕ) → Alike known set b l k → (w : Loop) (before : Names) (body test : Goal) (lb lt : SlotNames → SlotGoals) →
     AreAmong before w.shared → AreAmong before w.kept → AreAmong w.shared w.kept → Grows (loop_slots w) (do_slots w lb lt) → Turns b (do_helper w lb lt) (PartsSame known set b w body test lb lt) l k →
-    SameGoals b l k h (over_names.turning (finish_of w.ending) before w.shared w.kept (over_names.do_turns w.shared body test)) (loop_goals h before w)
+    SameGoals b l k h (over_names.turning (over_names.names_around (finish_of w.ending) before w.shared w.kept) (over_names.do_turns w.shared body test)) (loop_goals h before w)
 do-same known set b l k h alike w before body test lb lt shared kept among grows turns =
     loop-same known set b l k h alike w before (over_names.do_turns w.shared body test) shared kept (do_room w lb lt) m fits
     (λ base e vs s count a. do-calls known set b w body test lb lt m base (endings (finish_of w.ending) w.kept base) (closes-ends known set b w (do_room w lb lt) base among) fits l k turns e vs s count a)

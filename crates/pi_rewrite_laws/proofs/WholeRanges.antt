@@ -149,7 +149,7 @@ range-behind known set b l k h alike w turn before e0 is-pattern body lb shared 
 -- An iterator over a range.
 pub range-same : (known : Knows) (set : Setting) (b : Builtins) (l k : Level) (h : ℕ) → Alike known set b l k → (w : Loop) (turn : List ℕ) (before : Names) (e0 : ExpTree) → IsPattern e0 → (vs : Values) (lvs : SlotNames → SlotValues) → ((ns : SlotNames) → Bounds (lvs ns).trees) → SameArguments b l k h vs lvs →
     (body : Goal) (lb : SlotNames → SlotGoals) → AreAmong before w.shared → AreAmong before w.kept → AreAmong w.shared w.kept → Apart w (turn_front (slot_pattern e0 [])) → Steps b (range_helper turn w) (step_helper turn w e0 lb) (TurnSame known set b w (slot_pattern e0 []) body lb) l k →
-    SameGoals b l k h (over_names.iterating (finish_of w.ending) before w.shared w.kept e0 (applied_to set (codes "..") vs) body) (range_goals h before w lvs)
+    SameGoals b l k h (over_names.iterating (over_names.names_around (finish_of w.ending) before w.shared w.kept) e0 (applied_to set (codes "..") vs) body) (range_goals h before w lvs)
 unfolding over_names.iterating EachAnswer applied_to
 range-same known set b l k h alike w turn before e0 is-pattern vs lvs bounds is body lb shared kept among apart steps = record {
   grows = λ ns. grows-then ns _ _ (started-grows known set b l k h alike before ns) (grows-then (started h before ns).names _ _ (by _) (values-grow w.kept (behind_range (started h before ns).names (range_of (lvs (only before (started h before ns).names))))));

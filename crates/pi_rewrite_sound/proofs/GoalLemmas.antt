@@ -15,7 +15,7 @@ use Rattle.pi_meaning.specs.OverNames.Texts.{Names, places, places_all, places_b
 use Rattle.pi_meaning.specs.OverNames.Terms.{items_onto}
 use Rattle.pi_meaning.specs.OverNames.Control.{Goal, Value, Values, draining, nothing, in_front, made_of, made_onto, applied_to, following, choosing, branch_before, goal_at, value_at}
 use Rattle.pi_meaning.specs.OverNames.Forms.{form_of, Parts, Reading, plain, readings, first_reading, later_readings, operand_readings, indexed_by}
-use Rattle.pi_meaning.specs.OverNames.Loops.{Finish, as_it_is, unit, iterating, turning, while_turns, do_turns, hidden, adding, in_order, comprehended}
+use Rattle.pi_meaning.specs.OverNames.Loops.{Finish, as_it_is, unit, iterating, turning, while_turns, do_turns, hidden, adding, in_order, comprehended, names_around}
 use Rattle.pi_meaning.specs.OverNames.Goals.{started, value_of, values_of, values_in, values_apart, goals_in, goal_of, all_of, any_of, arrow_in, branches_of, units_of, collection_of}
 use Rattle.pi_rewrite_sound.specs.Built.{is_built_pattern, is_built_form, is_assigned, is_built_unit, are_built_units, is_built_collection, are_some, is_built_value, are_built_values, is_built_value_at, is_built_goal_at, is_built_goal, are_built_goals, are_built_branches, is_built_branch, have_built_goals}
 use Rattle.pi_rewrite_sound.specs.TermCalls.{calls_terms, some_call_terms, some_branch_calls_terms}
@@ -47,10 +47,10 @@ branch-goal a b before e n same = absurd cc
 
 -- an iterator or a test, of what it goes over or of what it asks, and of what stands behind it
 unit-alike : (finish : Finish) (before inside kept : Names) (o : Option ExpTree) (over tested : Bool) → is_built_unit o over tested ≡ true → (v w : Value) → (over ≡ true → v ≡ w) → (f g : Goal) → (tested ≡ true → f ≡ g) → (rest last : Goal) → rest ≡ last →
-    unit finish before inside kept o v f rest ≡ unit finish before inside kept o w g last
+    unit (names_around finish before inside kept) o v f rest ≡ unit (names_around finish before inside kept) o w g last
 unit-alike finish before inside kept None over tested built v w collection f g test rest last d = λ i l p. choosing (test built i) (d i) (λ m q. one q) l p
 unit-alike finish before inside kept (Some e) over tested built v w collection f g test rest last d =
-    λ i l p. iterating finish before inside kept e (collection (and_parts (is_built_pattern e) over built).1 i) (d i) l p
+    λ i l p. iterating (names_around finish before inside kept) e (collection (and_parts (is_built_pattern e) over built).1 i) (d i) l p
 
 mutual
   unfolding value_of values_of values_in values_apart goals_in goal_of all_of any_of arrow_in branches_of indexed_by value_at goal_at is_built_value are_built_values is_built_value_at is_built_goal_at is_built_goal
@@ -182,13 +182,13 @@ mutual
       let parts = and_parts (is_built_goal c) (is_built_goal e) n in
       let free = or_parts (calls_terms c) (calls_terms e) z in
       let inside : Names = shared_names before (occurring c ++ occurring e) in
-      λ i l p. draining (turning as_it_is before inside (kept_names before no_exps (assigned e))
+      λ i l p. draining (turning (names_around as_it_is before inside (kept_names before no_exps (assigned e)))
       (while_turns inside (goal-alike a b h inside c parts.0 free.0 i) (goal-alike a b h (behind inside (places c)) e parts.1 free.1 i))) l p
   goal-alike a b h before (do_while e c) n z =
       let parts = and_parts (is_built_goal e) (is_built_goal c) n in
       let free = or_parts (calls_terms e) (calls_terms c) z in
       let inside : Names = shared_names before (occurring e ++ occurring c) in
-      λ i l p. draining (turning as_it_is before inside (kept_names before no_exps (assigned e))
+      λ i l p. draining (turning (names_around as_it_is before inside (kept_names before no_exps (assigned e)))
       (do_turns inside (goal-alike a b h inside e parts.0 free.0 i) (goal-alike a b h (behind inside (places e)) c parts.1 free.1 i))) l p
   goal-alike a b h before (var name) n z = refl
   goal-alike a b h before (int i) n z = refl

@@ -20,7 +20,7 @@ use Rattle.pi_meaning.specs.OverNames.Texts.{Names, places, behind}
 use Rattle.pi_meaning.specs.OverNames.Heads.{patterns_matched}
 use Rattle.pi_meaning.specs.OverNames.Control.{strictly}
 use Rattle.pi_meaning.specs.OverNames.Forms.{plain}
-use Rattle.pi_meaning.specs.OverNames.Rules.{is_head_of, rules_named, functions_named, modes_named, guarded, places_in, names_before, function_names, body_or_agent, leaves_later, rule_or_later, rules_called, predicate_run, body_or_none, applied, value_run, function_or_later, functions_called, function_run, calls_by, level_for}
+use Rattle.pi_meaning.specs.OverNames.Rules.{is_head_of, rules_named, functions_named, modes_named, guarded, places_in, names_before, function_names, body_or_agent, leaves_later, rule_or_later, rules_called, predicate_run, body_or_none, applied, value_run, function_or_later, functions_called, function_run, calls_by, level_for, tried_rule, call_made}
 use Rattle.pi_rewrite_sound.specs.Built.{is_built_value, is_built_goal, are_built_patterns, is_built_goal_or_none, are_none, is_built_rule, is_built_function_rule}
 use Rattle.pi_rewrite_sound.specs.TermCalls.{calls_terms, calls_terms_if, rule_calls_terms, function_calls_terms}
 use Rattle.pi_rewrite_sound.proofs.CallLemmas.{CallsAlike}
@@ -35,12 +35,12 @@ module _ (x y : RulesSetting) (h : CallsAlike x.calls y.calls) where
   guard-alike before (Some c) n z = λ i l p. strictly (goal-alike x.calls y.calls h before c n z i) l p
 
   body-alike : (call : Tree) (k : ℕ) (r : RuleTree) → is_built_goal r.body ≡ true → calls_terms r.body ≡ false → (es : List ExpTree) → are_none es ≡ true → (l : Level) (p : Place) →
-      body_or_agent x call k r es l p ≡ body_or_agent y call k r es l p
+      body_or_agent x (tried_rule call k r) es l p ≡ body_or_agent y (tried_rule call k r) es l p
   body-alike call k r n z [] none l p = λ i. then (goal-alike x.calls y.calls h (names_before r.head r.cond) r.body n z i l p) (λ q. one q.state)
   body-alike call k r n z (e ∷ es) none l p = absurd cc
 
   rule-alike : (call : Tree) (k : ℕ) (r : RuleTree) → is_built_rule r ≡ true → rule_calls_terms r ≡ false → (l : Level) (s : State) (later other : Trace State) → later ≡ other → (o : Option Environment) →
-      rule_or_later x call k r l s later o ≡ rule_or_later y call k r l s other o
+      rule_or_later x (tried_rule call k r) l s later o ≡ rule_or_later y (tried_rule call k r) l s other o
   rule-alike call k r n z l s later other e None = e
   rule-alike call k r n z l s later other e (Some names) =
       let events = and_parts (are_none r.events) (are_built_patterns (head_arguments r.head) && (is_built_goal_or_none r.cond && is_built_goal r.body)) n in
@@ -50,14 +50,13 @@ module _ (x y : RulesSetting) (h : CallsAlike x.calls y.calls) where
       λ i. chosen (guard-alike (behind [] (places r.head)) r.cond goals.0 free.0 i l (record { names = names; state = s }))
       (λ p. chosen_rule (leaves_later r r.events) (body-alike call k r goals.1 free.1 r.events events.0 l p i) (e i)) (e i)
 
-  rules-alike : (call : Tree) (k : ℕ) (rs : List RuleTree) → RulesAreBuilt rs → (l : Level) (ts : Trees) (s : State) → rules_called x call k rs l ts s ≡ rules_called y call k rs l ts s
-  unfolding rules_called RulesAreBuilt
-  rules-alike call k [] n l ts s = refl
+  rules-alike : (call : Tree) (k : ℕ) (rs : List RuleTree) → RulesAreBuilt rs → (l : Level) (ts : Trees) (s : State) → rules_called x call k rs (call_made l ts s) ≡ rules_called y call k rs (call_made l ts s)
+  unfolding rules_called RulesAreBuilt rules-alike call k (call_made [] n l) ts s = refl
   rules-alike call k (r ∷ rs) n l ts s =
-      rule-alike call k r n.0.0 n.0.1 l s (rules_called x call (suc k) rs l ts s) (rules_called y call (suc k) rs l ts s) (rules-alike call (suc k) rs n.1 l ts s) (patterns_matched (bindings s) (head_arguments r.head) ts [])
+      rule-alike call k r n.0.0 n.0.1 l s (rules_called x call (suc k) rs (call_made l ts s)) (rules_called y call (suc k) rs (call_made l ts s)) (rules-alike call (suc k) rs n.1 l ts s) (patterns_matched (bindings s) (head_arguments r.head) ts [])
 
   predicate-run-alike : (program : ProgramTree) → PartsAreBuilt program → (l : Level) (name : List ℕ) (ts : Trees) (s : State) (o : Option (List (List Mode))) →
-      predicate_run x program l name ts s o ≡ predicate_run y program l name ts s o
+      predicate_run x program name (call_made l ts s) o ≡ predicate_run y program name (call_made l ts s) o
   predicate-run-alike program n l name ts s None =
       rules-alike (comp name ts) 0 (rules_named name (tree_count ts) program) (kept-rules (is_rule_of name (tree_count ts)) (rules_of program) (rules-built program n)) l ts s
   predicate-run-alike program n l name ts s (Some lists) = refl

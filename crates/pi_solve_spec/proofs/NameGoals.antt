@@ -22,7 +22,7 @@ use Rattle.pi_meaning.specs.OverNames.Assigning.{place_of}
 use Rattle.pi_meaning.specs.OverNames.Texts.{Names, places, places_all, places_behind, places_caught, places_of_branches, occurring, occurring_all, behind, iterated, unit_places, begins_with_iterator, shared_names, names_inside, variable_first, assigned, kept_names}
 use Rattle.pi_meaning.specs.OverNames.Terms.{items_onto}
 use Rattle.pi_meaning.specs.OverNames.Control.{Goal, Value, Values, draining, nothing, in_front, made_of, made_onto, applied_to, all_found, all_counted, called_with, calling_term, following, choosing, branch_before, denying, taken_once, assigning, catching, goal_at, value_at}
-use Rattle.pi_meaning.specs.OverNames.Loops.{Finish, as_it_is, turning, unit, while_turns, do_turns, hidden, adding, in_order, comprehended}
+use Rattle.pi_meaning.specs.OverNames.Loops.{Finish, as_it_is, turning, unit, while_turns, do_turns, hidden, adding, in_order, comprehended, names_around}
 use Rattle.pi_meaning.specs.OverNames.Forms.{Form, negation, once, assignment, catch, by_term, membership, form_of, Parts, call_goal, atom_goal, Reading, plain, operand, boolean, ranged, readings, first_reading, later_readings, is_operand_node, is_sum, is_connective, is_constraint, operand_readings, is_find_all, is_count_all, function_value, call_value, range_value, indexed_by}
 use Rattle.pi_meaning.specs.OverNames.Goals.{started, value_of, values_of, values_in, values_apart, goals_in, goal_of, all_of, any_of, arrow_in, branches_of, units_of, collection_of}
 use Rattle.pi_solve_spec.specs.Written.{IsOtherCall, AsksNone, AskNone, BranchesAskNone}
@@ -221,10 +221,10 @@ mutual
       (λ finish inside. units-alike a b h finish inside (assigned e) (occurring e) es n.0 (λ names. goal_of a names e) (λ names. goal_of b names e) (λ j names. goal-alike a b h names e n.1 j) i)) l p
   goal-alike a b h before (while_do c e) n =
       let inside : Names = shared_names before (occurring c ++ occurring e) in
-      λ i l p. draining (turning as_it_is before inside (kept_names before no_exps (assigned e)) (while_turns inside (goal-alike a b h inside c n.0 i) (goal-alike a b h (behind inside (places c)) e n.1 i))) l p
+      λ i l p. draining (turning (names_around as_it_is before inside (kept_names before no_exps (assigned e))) (while_turns inside (goal-alike a b h inside c n.0 i) (goal-alike a b h (behind inside (places c)) e n.1 i))) l p
   goal-alike a b h before (do_while e c) n =
       let inside : Names = shared_names before (occurring e ++ occurring c) in
-      λ i l p. draining (turning as_it_is before inside (kept_names before no_exps (assigned e)) (do_turns inside (goal-alike a b h inside e n.0 i) (goal-alike a b h (behind inside (places e)) c n.1 i))) l p
+      λ i l p. draining (turning (names_around as_it_is before inside (kept_names before no_exps (assigned e))) (do_turns inside (goal-alike a b h inside e n.0 i) (goal-alike a b h (behind inside (places e)) c n.1 i))) l p
   goal-alike a b h before (var name) n = refl
   goal-alike a b h before (int i) n = refl
   goal-alike a b h before (str text) n = refl
@@ -263,7 +263,7 @@ mutual
   units-alike a b h finish before names used no_exps n body other d = λ i l p. d i before l p
   units-alike a b h finish before names used (exp u us) n body other d =
       let inside : Names = names_inside before (iterated u) (occurring_all us ++ used) in
-      λ i l p. unit finish before inside (kept_names before (exp u us) names) (iterated u) (collection-alike a b h before u n.0 i) (goal-alike a b h before u n.0 i)
+      λ i l p. unit (names_around finish before inside (kept_names before (exp u us) names)) (iterated u) (collection-alike a b h before u n.0 i) (goal-alike a b h before u n.0 i)
       (units-alike a b h as_it_is (behind inside (unit_places (iterated u) u)) names used us n.1 body other d i) l p
 
   collection-alike : (a b : Setting) → CallsAlike a b → (before : Names) (e : ExpTree) → AsksNone e → collection_of a before e ≡ collection_of b before e

@@ -23,7 +23,7 @@ use Rattle.pi_meaning.specs.OverNames.Texts.{Names, places, behind}
 use Rattle.pi_meaning.specs.OverNames.Heads.{patterns_matched}
 use Rattle.pi_meaning.specs.OverNames.Control.{strictly}
 use Rattle.pi_meaning.specs.OverNames.Forms.{plain}
-use Rattle.pi_meaning.specs.OverNames.Rules.{function_in, is_head_of, rules_named, functions_named, heads_named, modes_named, guarded, places_in, names_before, function_names, body_or_agent, leaves_later, rule_or_later, rules_called, predicate_run, body_or_none, applied, value_run, function_or_later, functions_called, function_run, calls_by, level_for}
+use Rattle.pi_meaning.specs.OverNames.Rules.{function_in, is_head_of, rules_named, functions_named, heads_named, modes_named, guarded, places_in, names_before, function_names, body_or_agent, leaves_later, rule_or_later, rules_called, predicate_run, body_or_none, applied, value_run, function_or_later, functions_called, function_run, calls_by, level_for, tried_rule, call_made}
 use Rattle.pi_meaning.specs.OverNames.Prelude.{prelude}
 use Rattle.pi_meaning.specs.OverNames.Run.{is_some_head, answer_names, names_from, names_trace}
 use Rattle.pi_solve_spec.specs.Written.{AsksNone, AskNone, MayAskNone, PartAsksNone, ProgramAsksNone}
@@ -110,27 +110,27 @@ guard-alike x y agent h before None n = refl
 guard-alike x y agent h before (Some c) n = λ i l p. strictly (goal-alike x y h before c n i) l p
 
 body-alike : (x y : Setting) (agent : Agent) → CallsAlike x y → (call : Tree) (k : ℕ) (r : RuleTree) → AsksNone r.body → (es : List ExpTree) (l : Level) (p : Place) →
-    body_or_agent (with_calls x agent) call k r es l p ≡ body_or_agent (with_calls y agent) call k r es l p
+    body_or_agent (with_calls x agent) (tried_rule call k r) es l p ≡ body_or_agent (with_calls y agent) (tried_rule call k r) es l p
 body-alike x y agent h call k r n [] l p = λ i. then (goal-alike x y h (names_before r.head r.cond) r.body n i l p) (λ q. one q.state)
 body-alike x y agent h call k r n (e ∷ es) l p = refl
 
 rule-alike : (x y : Setting) (agent : Agent) → CallsAlike x y → (call : Tree) (k : ℕ) (r : RuleTree) → MayAskNone r.cond × AsksNone r.body → (l : Level) (s : State) (later other : Trace State) → later ≡ other →
-    (o : Option Environment) → rule_or_later (with_calls x agent) call k r l s later o ≡ rule_or_later (with_calls y agent) call k r l s other o
+    (o : Option Environment) → rule_or_later (with_calls x agent) (tried_rule call k r) l s later o ≡ rule_or_later (with_calls y agent) (tried_rule call k r) l s other o
 rule-alike x y agent h call k r n l s later other e None = e
 rule-alike x y agent h call k r n l s later other e (Some names) = λ i.
     chosen (guard-alike x y agent h (behind [] (places r.head)) r.cond n.0 i l (record { names = names; state = s }))
     (λ p. chosen_rule (leaves_later r r.events) (body-alike x y agent h call k r n.1 r.events l p i) (e i)) (e i)
 
 rules-alike : (x y : Setting) (agent : Agent) → CallsAlike x y → (call : Tree) (k : ℕ) (rs : List RuleTree) → RulesAskNone rs → (l : Level) (ts : Trees) (s : State) →
-    rules_called (with_calls x agent) call k rs l ts s ≡ rules_called (with_calls y agent) call k rs l ts s
+    rules_called (with_calls x agent) call k rs (call_made l ts s) ≡ rules_called (with_calls y agent) call k rs (call_made l ts s)
 unfolding rules_called RulesAskNone
 rules-alike x y agent h call k [] n l ts s = refl
 rules-alike x y agent h call k (r ∷ rs) n l ts s =
-    rule-alike x y agent h call k r n.0 l s (rules_called (with_calls x agent) call (suc k) rs l ts s) (rules_called (with_calls y agent) call (suc k) rs l ts s)
+    rule-alike x y agent h call k r n.0 l s (rules_called (with_calls x agent) call (suc k) rs (call_made l ts s)) (rules_called (with_calls y agent) call (suc k) rs (call_made l ts s))
     (rules-alike x y agent h call (suc k) rs n.1 l ts s) (patterns_matched (bindings s) (head_arguments r.head) ts [])
 
 predicate-run-alike : (x y : Setting) (agent : Agent) → CallsAlike x y → (program : ProgramTree) → ProgramAsksNone program → (l : Level) (name : List ℕ) (ts : Trees) (s : State) (o : Option (List (List Mode))) →
-    predicate_run (with_calls x agent) program l name ts s o ≡ predicate_run (with_calls y agent) program l name ts s o
+    predicate_run (with_calls x agent) program name (call_made l ts s) o ≡ predicate_run (with_calls y agent) program name (call_made l ts s) o
 predicate-run-alike x y agent h program n l name ts s None =
     rules-alike x y agent h (comp name ts) 0 (rules_named name (tree_count ts) program) (kept-rules (is_rule_of name (tree_count ts)) (rules_of program) (rules-ask_none program n)) l ts s
 predicate-run-alike x y agent h program n l name ts s (Some lists) = refl

@@ -16,7 +16,7 @@ use Rattle.pi_meaning.specs.Shared.Drain.{drained}
 use Rattle.pi_meaning.specs.Shared.Level.{Level, level_of, Applied, Point}
 use Rattle.pi_meaning.specs.CoreMeaning.Builtins.{Builtins}
 use Rattle.pi_meaning.specs.CoreMeaning.Meaning.{strictly}
-use Rattle.pi_meaning.specs.CoreMeaning.Rules.{guarded, chosen_rule, rule_before, rules, body_or_agent, pred_run, value_at, value_run, function_run, entered, call_run, application_run, calls_of, quiet_level, level_at}
+use Rattle.pi_meaning.specs.CoreMeaning.Rules.{guarded, chosen_rule, rule_before, rules, body_or_agent, pred_run, value_at, value_run, function_run, entered, call_run, application_run, calls_of, quiet_level, level_at, rule_by, rules_by}
 use Rattle.pi_meaning.specs.CoreMeaning.Run.{answered_with, query_start, query_trace}
 use Rattle.pi_solve_spec.specs.Rests.{asks_rest, clause_asks, is_by_rests}
 use Rattle.pi_solve_spec.proofs.GoalLemmas.{Alike, both_false, goal-alike}
@@ -28,18 +28,18 @@ guarded-alike a b h truth n = refl
 guarded-alike a b h g n = λ i p. strictly (goal-alike a b h g n i) p
 
 before-alike : {X : Type 0} (a b : Builtins) (l : Level) (c : ClauseTree) (back : Bool) (does other : Point → Trace X) (s : State) (rest more : Trace X) (o : Option Places) →
-    guarded a c.guard ≡ guarded b c.guard → does ≡ other → rest ≡ more → rule_before a l c back does s rest o ≡ rule_before b l c back other s more o
+    guarded a c.guard ≡ guarded b c.guard → does ≡ other → rest ≡ more → rule_before a l (rule_by c back does) s rest o ≡ rule_before b l (rule_by c back other) s more o
 before-alike a b l c back does other s rest more None g d r = r
 before-alike a b l c back does other s rest more (Some e) g d r = λ i. chosen (g i (record { level = l; slots = e; state = s })) (λ p. chosen_rule back (d i p) (r i)) (r i)
 
 rules-alike : {X : Type 0} (a b : Builtins) → Alike a b → (l : Level) (back : ClauseTree → Bool) (does other : ℕ → ClauseTree → Point → Trace X) →
     ((k : ℕ) (c : ClauseTree) → clause_asks c ≡ false → does k c ≡ other k c) → (k : ℕ) (cs : List ClauseTree) → list_any clause_asks cs ≡ false → (ts : Trees) (s : State) →
-    rules a l back does k cs ts s ≡ rules b l back other k cs ts s
+    rules (rules_by a l back does) k cs ts s ≡ rules (rules_by b l back other) k cs ts s
 unfolding rules
 rules-alike a b h l back does other same k [] n ts s = refl
 rules-alike a b h l back does other same k (c ∷ cs) n ts s =
     let parts = both_false (clause_asks c) (list_any clause_asks cs) n in
-    before-alike a b l c (back c) (does k c) (other k c) s (rules a l back does (suc k) cs ts s) (rules b l back other (suc k) cs ts s)
+    before-alike a b l c (back c) (does k c) (other k c) s (rules (rules_by a l back does) (suc k) cs ts s) (rules (rules_by b l back other) (suc k) cs ts s)
     (matched_all_in (bindings s) c.head ts (replicate c.slots None))
     (guarded-alike a b h c.guard (both_false (asks_rest c.guard) (asks_rest c.body) parts.0).0) (same k c parts.0) (rules-alike a b h l back does other same (suc k) cs parts.1 ts s)
 

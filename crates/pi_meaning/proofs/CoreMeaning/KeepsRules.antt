@@ -21,7 +21,7 @@ use Rattle.pi_meaning.specs.Shared.Level.{Level, level_of, Calls, Point}
 use Rattle.pi_core.specs.CoreTree.{ClauseTree, PredTree, QueryTree, backtracks, find_pred}
 use Rattle.pi_meaning.specs.CoreMeaning.Meaning.{meaning, strictly}
 use Rattle.pi_meaning.specs.CoreMeaning.Facts.{fits_modes, also_named, with_name, in_front, fact_term, fact_terms, unified_with, facts}
-use Rattle.pi_meaning.specs.CoreMeaning.Rules.{guarded, chosen_rule, rule_before, rules, slot_of, watch_tree, watch_trees, suspended, body_or_agent, pred_run, value_at, value_run, function_run, entered, call_run, application_run, calls_of, quiet_level, level_at}
+use Rattle.pi_meaning.specs.CoreMeaning.Rules.{guarded, chosen_rule, rule_before, rules, slot_of, watch_tree, watch_trees, suspended, body_or_agent, pred_run, value_at, value_run, function_run, entered, call_run, application_run, calls_of, quiet_level, level_at, rule_by, rules_by}
 use Rattle.pi_meaning.specs.CoreMeaning.Run.{Solution, solution, told, answered_with, query_start, query_trace}
 use Rattle.pi_meaning.specs.CoreMeaning.Laws.{RunsKeepStates}
 use Rattle.pi_core.specs.declared.core_program.SlotWatch.{SlotWatch}
@@ -141,7 +141,7 @@ DoesKeep Q s does = (i : ℕ) (c : ClauseTree) (p : Point) → IsPlace p → nex
 
 rule-keeps : {X : Type 0} (Q : X → Type 0) (v : View) (l : Level) → LevelKeeps l → (c : ClauseTree) (back : Bool) (does : Point → Trace X) (s : State) → IsState s →
     ((p : Point) → IsPlace p → next s ≤ next p.state → EachAnswer Q (does p)) → (rest : Trace X) → EachAnswer Q rest → (o : Option Places) → SomePlacesBelow (next s) o →
-    EachAnswer Q (rule_before (tabled v) l c back does s rest o)
+    EachAnswer Q (rule_before (tabled v) l (rule_by c back does) s rest o)
 unfolding Keeps
 rule-keeps Q v l h c back does s is a rest b None e = b
 rule-keeps Q v l h c back does s is a rest b (Some e) slots =
@@ -151,11 +151,11 @@ rule-keeps Q v l h c back does s is a rest b (Some e) slots =
     (λ q k. chosen-rule-keeps Q back (does q) rest (a q k.0 k.1) b) b
 
 rules-keep : {X : Type 0} (Q : X → Type 0) (v : View) (l : Level) → LevelKeeps l → (back : ClauseTree → Bool) (does : ℕ → ClauseTree → Point → Trace X) (i : ℕ) (cs : List ClauseTree)
-    (ts : Trees) (s : State) → IsState s → TreesBelow (next s) ts → DoesKeep Q s does → EachAnswer Q (rules (tabled v) l back does i cs ts s)
+    (ts : Trees) (s : State) → IsState s → TreesBelow (next s) ts → DoesKeep Q s does → EachAnswer Q (rules (rules_by (tabled v) l back does) i cs ts s)
 unfolding rules EachAnswer
 rules-keep Q v l h back does i [] ts s is these a = tt
 rules-keep Q v l h back does i (c ∷ cs) ts s is these a =
-    rule-keeps Q v l h c (back c) (does i c) s is (a i c) (rules (tabled v) l back does (suc i) cs ts s) (rules-keep Q v l h back does (suc i) cs ts s is these a)
+    rule-keeps Q v l h c (back c) (does i c) s is (a i c) (rules (rules_by (tabled v) l back does) (suc i) cs ts s) (rules-keep Q v l h back does (suc i) cs ts s is these a)
     (matched_all_in (bindings s) c.head ts (replicate c.slots None))
     (matched-all-below (next s) (bindings s) (λ n t has. bound_below s n t is has) c.head ts (replicate c.slots None) these (places-empty (next s) c.slots))
 
@@ -227,7 +227,7 @@ function-keeps : (v : View) (l : Level) → LevelKeeps l → (pred : PredTree) (
     EachAnswer (AppliedLater s) (function_run (tabled v) l pred ts s)
 unfolding function_run
 function-keeps v l h pred ts s is these =
-    each-chosen (AppliedLater s) (AppliedLater s) (rules (tabled v) l (λ c. false) (λ i c p. value_run (tabled v) c p) 0 pred.clauses ts s) (λ a. one a)
+    each-chosen (AppliedLater s) (AppliedLater s) (rules (rules_by (tabled v) l (λ c. false) (λ i c p. value_run (tabled v) c p)) 0 pred.clauses ts s) (λ a. one a)
     (raised_with (codes "unresolved_function_call") (comp pred.name ts) s)
     (rules-keep (AppliedLater s) v l h (λ c. false) (λ i c p. value_run (tabled v) c p) 0 pred.clauses ts s is these (λ i c p place more. run-keeps v s c p place more))
     (λ a k. each-one (AppliedLater s) a k) (raised-keeps (AppliedLater s) (codes "unresolved_function_call") (comp pred.name ts) s)

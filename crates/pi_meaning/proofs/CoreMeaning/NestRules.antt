@@ -16,7 +16,7 @@ use Rattle.pi_meaning.specs.Shared.Level.{Level, level_of, Calls, Applied, Point
 use Rattle.pi_core.specs.CoreTree.{ClauseTree, PredTree, backtracks, find_pred}
 use Rattle.pi_meaning.specs.CoreMeaning.Facts.{facts_called}
 use Rattle.pi_meaning.specs.CoreMeaning.Meaning.{meaning, strictly}
-use Rattle.pi_meaning.specs.CoreMeaning.Rules.{guarded, chosen_rule, rule_before, rules, suspended, body_or_agent, pred_run, value_at, value_run, function_run, entered, call_run, application_run, calls_of, quiet_level}
+use Rattle.pi_meaning.specs.CoreMeaning.Rules.{guarded, chosen_rule, rule_before, rules, suspended, body_or_agent, pred_run, value_at, value_run, function_run, entered, call_run, application_run, calls_of, quiet_level, rule_by, rules_by}
 use Rattle.pi_meaning.specs.CoreMeaning.Quiet.{Callee, Passes, Reaches, TicksBetween}
 use Rattle.pi_meaning.specs.CoreMeaning.Laws.{SameButLevel, QuietCallsNestFreely}
 use Rattle.pi_syntax.specs.declared.program.Mode.{Mode}
@@ -42,7 +42,7 @@ DoesNest preds r f does = (i : ℕ) (c : ClauseTree) → ClauseFits preds r f c 
 
 rule-nests : {X : Type 0} (preds : List PredTree) (r : TicksBetween preds) (v : View) (f : ℕ) (l m : Level) → LevelsAgree preds r f l m →
     (c : ClauseTree) → ClauseFits preds r f c → (back : Bool) (does : Point → Trace X) → ((p q : Point) → Nested preds r f (Passes c.guard) p q → BelowBy Same (does p) (does q)) →
-    (s : State) (rest rest' : Trace X) → BelowBy Same rest rest' → (e : Option Places) → BelowBy Same (rule_before (tabled v) l c back does s rest e) (rule_before (tabled v) m c back does s rest' e)
+    (s : State) (rest rest' : Trace X) → BelowBy Same rest rest' → (e : Option Places) → BelowBy Same (rule_before (tabled v) l (rule_by c back does) s rest e) (rule_before (tabled v) m (rule_by c back does) s rest' e)
 unfolding Nests
 rule-nests preds r v f l m h c fits back does a s rest rest' b None = b
 rule-nests preds r v f l m h c fits back does a s rest rest' b (Some e) =
@@ -53,12 +53,12 @@ rule-nests preds r v f l m h c fits back does a s rest rest' b (Some e) =
 
 rules-nest : {X : Type 0} (preds : List PredTree) (r : TicksBetween preds) (v : View) (f : ℕ) (l m : Level) → LevelsAgree preds r f l m →
     (back : ClauseTree → Bool) (does : ℕ → ClauseTree → Point → Trace X) → DoesNest preds r f does → (i : ℕ) (cs : List ClauseTree) → ((c : ClauseTree) → Contains cs c → ClauseFits preds r f c) →
-    (ts : Trees) (s : State) → BelowBy Same (rules (tabled v) l back does i cs ts s) (rules (tabled v) m back does i cs ts s)
+    (ts : Trees) (s : State) → BelowBy Same (rules (rules_by (tabled v) l back does) i cs ts s) (rules (rules_by (tabled v) m back does) i cs ts s)
 unfolding rules
 rules-nest preds r v f l m h back does a i [] fits ts s = end_by Done
 rules-nest preds r v f l m h back does a i (c ∷ cs) fits ts s =
     let this : ClauseFits preds r f c = fits c (0, omega arith, refl) in
-    rule-nests preds r v f l m h c this (back c) (does i c) (a i c this) s (rules (tabled v) l back does (suc i) cs ts s) (rules (tabled v) m back does (suc i) cs ts s)
+    rule-nests preds r v f l m h c this (back c) (does i c) (a i c this) s (rules (rules_by (tabled v) l back does) (suc i) cs ts s) (rules (rules_by (tabled v) m back does) (suc i) cs ts s)
     (rules-nest preds r v f l m h back does a (suc i) cs (λ x within. fits x (suc within.0, omega (arith, within.1), within.2)) ts s)
     (matched_all_in (bindings s) c.head ts (replicate c.slots None))
 
@@ -111,7 +111,7 @@ function-nests : (preds : List PredTree) (r : TicksBetween preds) (v : View) (f 
 unfolding function_run
 function-nests preds r v f l m h pred fits ts s =
     let unresolved : Trace Applied = raised_with (codes "unresolved_function_call") (comp pred.name ts) s in
-    by-chosen Same Same (rules (tabled v) l (λ c. false) (λ i c p. value_run (tabled v) c p) 0 pred.clauses ts s) (rules (tabled v) m (λ c. false) (λ i c p. value_run (tabled v) c p) 0 pred.clauses ts s)
+    by-chosen Same Same (rules (rules_by (tabled v) l (λ c. false) (λ i c p. value_run (tabled v) c p)) 0 pred.clauses ts s) (rules (rules_by (tabled v) m (λ c. false) (λ i c p. value_run (tabled v) c p)) 0 pred.clauses ts s)
     (λ a. one a) (λ a. one a) unresolved unresolved
     (rules-nest preds r v f l m h (λ c. false) (λ i c p. value_run (tabled v) c p) (λ i c this p q n. value-nests preds r v f c this p q n) 0 pred.clauses fits ts s)
     (λ a b n. by-one Same a b n) (by-same unresolved)

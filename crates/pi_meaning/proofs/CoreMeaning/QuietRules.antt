@@ -21,7 +21,7 @@ use Rattle.pi_meaning.specs.Shared.Level.{Level, lowest, over, level_of, Calls, 
 use Rattle.pi_core.specs.CoreTree.{ClauseTree, PredTree, QueryTree, backtracks, find_pred}
 use Rattle.pi_meaning.specs.CoreMeaning.Facts.{fits_modes, fact_terms, unified_with, facts}
 use Rattle.pi_meaning.specs.CoreMeaning.Meaning.{slot_value, meaning, strictly}
-use Rattle.pi_meaning.specs.CoreMeaning.Rules.{guarded, chosen_rule, rule_before, rules, suspended, body_or_agent, pred_run, value_at, value_run, function_run, entered, call_run, application_run, calls_of, quiet_level, level_at}
+use Rattle.pi_meaning.specs.CoreMeaning.Rules.{guarded, chosen_rule, rule_before, rules, suspended, body_or_agent, pred_run, value_at, value_run, function_run, entered, call_run, application_run, calls_of, quiet_level, level_at, rule_by, rules_by}
 use Rattle.pi_meaning.specs.CoreMeaning.Quiet.{Callee, Passes, Reaches, ReachesFrom, TicksBetween}
 use Rattle.pi_meaning.specs.CoreMeaning.Run.{Solution, solution, told, answered_with, query_start, query_trace, IsRunUnder}
 use Rattle.pi_syntax.specs.declared.program.Mode.{Mode}
@@ -68,7 +68,7 @@ guarded-deepens preds r built lasting g f fits d p h l =
 
 rule-lasts : {X : Type 0} (preds : List PredTree) (r : TicksBetween preds) (built : Builtins) (lasting : BuiltinsLast preds r built) (f d : ℕ) (l : Level) → d ≤ worth l → LevelLasts preds r f l →
     (c : ClauseTree) → ClauseFits preds r f c → (back : Bool) (does : Point → Trace X) → ((k : ℕ) (q : Point) → Left preds r f (Passes c.guard) k q → Lasts Any k (does q)) →
-    (s : State) (rest : Trace X) → Lasts Any d rest → (e : Option Places) → Lasts Any d (rule_before built l c back does s rest e)
+    (s : State) (rest : Trace X) → Lasts Any d rest → (e : Option Places) → Lasts Any d (rule_before built l (rule_by c back does) s rest e)
 unfolding Deepens
 rule-lasts preds r built lasting f d l h last c fits back does a s rest b None = b
 rule-lasts preds r built lasting f d l h last c fits back does a s rest b (Some e) =
@@ -79,12 +79,12 @@ rule-lasts preds r built lasting f d l h last c fits back does a s rest b (Some 
 
 rules-last : {X : Type 0} (preds : List PredTree) (r : TicksBetween preds) (built : Builtins) (lasting : BuiltinsLast preds r built) (f d : ℕ) (l : Level) → d ≤ worth l → LevelLasts preds r f l →
     (back : ClauseTree → Bool) (does : ℕ → ClauseTree → Point → Trace X) → DoesLast preds r f does → (i : ℕ) (cs : List ClauseTree) → ((c : ClauseTree) → Contains cs c → ClauseFits preds r f c) →
-    (ts : Trees) (s : State) → Lasts Any d (rules built l back does i cs ts s)
+    (ts : Trees) (s : State) → Lasts Any d (rules (rules_by built l back does) i cs ts s)
 unfolding rules
 rules-last preds r built lasting f d l h last back does a i [] fits ts s = done-lasts Any d
 rules-last preds r built lasting f d l h last back does a i (c ∷ cs) fits ts s =
     let this : ClauseFits preds r f c = fits c (0, omega arith, refl) in
-    rule-lasts preds r built lasting f d l h last c this (back c) (does i c) (a i c this) s (rules built l back does (suc i) cs ts s)
+    rule-lasts preds r built lasting f d l h last c this (back c) (does i c) (a i c this) s (rules (rules_by built l back does) (suc i) cs ts s)
     (rules-last preds r built lasting f d l h last back does a (suc i) cs (λ x within. fits x (suc within.0, omega (arith, within.1), within.2)) ts s)
     (matched_all_in (bindings s) c.head ts (replicate c.slots None))
 
@@ -141,7 +141,7 @@ function-lasts : (preds : List PredTree) (r : TicksBetween preds) (built : Built
 unfolding function_run
 function-lasts preds r built lasting f d l h last pred fits ts s =
     let unresolved : Trace Applied = raised_with (codes "unresolved_function_call") (comp pred.name ts) s in
-    chosen-lasts Any Any any-falls d (rules built l (λ c. false) (λ i c p. value_run built c p) 0 pred.clauses ts s) (λ a. one a) unresolved
+    chosen-lasts Any Any any-falls d (rules (rules_by built l (λ c. false) (λ i c p. value_run built c p)) 0 pred.clauses ts s) (λ a. one a) unresolved
     (rules-last preds r built lasting f d l h last (λ c. false) (λ i c p. value_run built c p) (λ i c this k q o. run-lasts preds r built lasting f c this k q o) 0 pred.clauses fits ts s)
     (λ k a m o. one-lasts Any k a tt) (unresolved-lasts d (codes "unresolved_function_call") (comp pred.name ts) s)
 

@@ -15,7 +15,7 @@ use Rattle.pi_meaning.specs.Shared.Level.{Level, level_of, Calls, Applied, Point
 use Rattle.pi_core.specs.CoreTree.{ClauseTree, PredTree, backtracks, find_pred}
 use Rattle.pi_meaning.specs.CoreMeaning.Facts.{facts_called}
 use Rattle.pi_meaning.specs.CoreMeaning.Meaning.{meaning, strictly}
-use Rattle.pi_meaning.specs.CoreMeaning.Rules.{guarded, chosen_rule, rule_before, rules, suspended, body_or_agent, pred_run, value_at, value_run, function_run, entered, call_run, application_run, calls_of, quiet_level, level_at}
+use Rattle.pi_meaning.specs.CoreMeaning.Rules.{guarded, chosen_rule, rule_before, rules, suspended, body_or_agent, pred_run, value_at, value_run, function_run, entered, call_run, application_run, calls_of, quiet_level, level_at, rule_by, rules_by}
 use Rattle.pi_syntax.specs.declared.program.Mode.{Mode}
 use Rattle.pi_core.specs.declared.core_program.SlotWatch.{SlotWatch}
 use Rattle.pi_meaning.proofs.Traces.RelatedLemmas.{Same, same, below-by, by-same, by-one, by-alt, by-then, by-chosen}
@@ -54,7 +54,7 @@ chosen-rule-below false t t' rest rest' a b = a
 
 rule-below : {X : Type 0} (K : Callable) (b d : Builtins) → CallsMore K b d → (l m : Level) → LevelBelow l m → (c : ClauseTree) → ClauseCalls K c → (back : Bool)
     (does other : Point → Trace X) → ((p q : Point) → PointBelow p q → BelowBy Same (does p) (other q)) → (s : State) (rest rest' : Trace X) → BelowBy Same rest rest' →
-    (e : Option Places) → BelowBy Same (rule_before b l c back does s rest e) (rule_before d m c back other s rest' e)
+    (e : Option Places) → BelowBy Same (rule_before b l (rule_by c back does) s rest e) (rule_before d m (rule_by c back other) s rest' e)
 rule-below K b d more l m h c k back does other a s rest rest' r None = r
 rule-below K b d more l m h c k back does other a s rest rest' r (Some e) =
     by-chosen PointBelow Same (guarded b c.guard (place l e s)) (guarded d c.guard (place m e s))
@@ -64,11 +64,11 @@ rule-below K b d more l m h c k back does other a s rest rest' r (Some e) =
 
 rules-below : {X : Type 0} (K : Callable) (b d : Builtins) → CallsMore K b d → (l m : Level) → LevelBelow l m → (back : ClauseTree → Bool)
     (does other : ℕ → ClauseTree → Point → Trace X) → DoesMore K does other → (i : ℕ) (cs : List ClauseTree) → ClausesCall K cs → (ts : Trees) (s : State) →
-    BelowBy Same (rules b l back does i cs ts s) (rules d m back other i cs ts s)
+    BelowBy Same (rules (rules_by b l back does) i cs ts s) (rules (rules_by d m back other) i cs ts s)
 unfolding rules DoesMore
 rules-below K b d more l m h back does other a i [] k ts s = end_by Done
 rules-below K b d more l m h back does other a i (c ∷ cs) k ts s =
-    rule-below K b d more l m h c k.0 (back c) (does i c) (other i c) (a i c k.0) s (rules b l back does (suc i) cs ts s) (rules d m back other (suc i) cs ts s)
+    rule-below K b d more l m h c k.0 (back c) (does i c) (other i c) (a i c k.0) s (rules (rules_by b l back does) (suc i) cs ts s) (rules (rules_by d m back other) (suc i) cs ts s)
     (rules-below K b d more l m h back does other a (suc i) cs k.1 ts s) (matched_all_in (bindings s) c.head ts (replicate c.slots None))
 
 -- Bodies, agents and values
@@ -114,7 +114,7 @@ function-below : (K : Callable) (b d : Builtins) → CallsMore K b d → (l m : 
 unfolding DoesMore function_run
 function-below K b d more l m h pred k ts s =
     let unresolved : Trace Applied = raised_with (codes "unresolved_function_call") (comp pred.name ts) s in
-    by-chosen Same Same (rules b l (λ c. false) (λ i c p. value_run b c p) 0 pred.clauses ts s) (rules d m (λ c. false) (λ i c p. value_run d c p) 0 pred.clauses ts s)
+    by-chosen Same Same (rules (rules_by b l (λ c. false) (λ i c p. value_run b c p)) 0 pred.clauses ts s) (rules (rules_by d m (λ c. false) (λ i c p. value_run d c p)) 0 pred.clauses ts s)
     (λ a. one a) (λ a. one a) unresolved unresolved
     (rules-below K b d more l m h (λ c. false) (λ i c p. value_run b c p) (λ i c p. value_run d c p) (λ i c j p q r. value-below K b d more c j p q r) 0 pred.clauses k ts s)
     (λ x y r. by-one Same x y r) (by-same unresolved)

@@ -14,7 +14,7 @@ use Rattle.pi_constraints.specs.Evaluation.{EvaluatedAll, evaluated_all}
 use Rattle.pi_meaning.specs.Shared.Names.{is_later_predicate, is_later_function, is_resource, is_call, is_given}
 use Rattle.pi_meaning.proofs.Shared.NamesApart.{predicate-no_call}
 use Rattle.pi_meaning.specs.Machine.Configuration.{Frame, Entry, config, behind, returning}
-use Rattle.pi_meaning.specs.Machine.Step.{silently, deeper, first_now, done_now, given_now, call_step, predicate_step, function_step, later_step, effect_step, name_step, later_value, other_value, value_step, try_clauses, goal_step, back_to}
+use Rattle.pi_meaning.specs.Machine.Step.{silently, deeper, first_now, done_now, given_now, call_step, predicate_step, function_step, later_step, effect_step, name_step, later_value, other_value, value_step, try_clauses, goal_step, back_to, with_rest, name_call}
 
 none-listed : {A : Type 0} (o : Option A) (listed : Bool) → is_some o ≡ listed → listed ≡ false → o ≡ None
 none-listed None listed is none = refl
@@ -38,51 +38,51 @@ neither false b h = (refl, h)
 pub call-comes-to : (v : View) (preds : List PredTree) (name : List ℕ) (args : List Tree) (pred : PredTree) (gs : GoalTrees) (e : Places) (s : State) (k : List Frame) (es : List Entry) →
     let all : EvaluatedAll = evaluated_all (trees_of args) e s in
     is_given false name (tree_count all.trees) ≡ false → find_pred false name (tree_count all.trees) preds ≡ Some pred →
-    goal_step v preds (call name args) gs e s k es ≡ call_step pred.quiet (try_clauses pred.index pred.clauses all.trees (back_to [] all.state (returning all.slots (behind gs k))) es)
+    goal_step v preds (call name args) e s (with_rest gs k es) ≡ call_step pred.quiet (try_clauses pred.index pred.clauses all.trees (back_to [] all.state (returning all.slots (behind gs k))) es)
 unfolding goal_step
 call-comes-to v preds name args pred gs e s k es none found =
     let all : EvaluatedAll = evaluated_all (trees_of args) e s in
     let m : ℕ = tree_count all.trees in
     let no_call : (is_call name m ≡ false) × ((is_predicate name m || is_later_predicate name m) ≡ false) = neither (is_call name m) (is_predicate name m || is_later_predicate name m) none in
     let others : (is_predicate name m ≡ false) × (is_later_predicate name m ≡ false) = neither (is_predicate name m) (is_later_predicate name m) no_call.1 in
-    ap (λ b. name_step b v preds name all gs k es) no_call.0
-    ∙ (ap (λ t. effect_step v t preds name all gs k es) (no-predicate name all.trees all.state others.0)
-    ∙ (ap (λ b. later_step b preds name all (behind gs k) es) others.1 ∙ ap (λ p. predicate_step p all (behind gs k) es) found))
+    ap (λ b. name_step b v preds (name_call name all) (with_rest gs k es)) no_call.0
+    ∙ (ap (λ t. effect_step v t preds (name_call name all) (with_rest gs k es)) (no-predicate name all.trees all.state others.0)
+    ∙ (ap (λ b. later_step b preds (name_call name all) (behind gs k) es) others.1 ∙ ap (λ p. predicate_step p all (behind gs k) es) found))
 
 -- a function of the program
 pub apply-comes-to : (v : View) (preds : List PredTree) (name : List ℕ) (args : List Tree) (into : ℕ) (pred : PredTree) (gs : GoalTrees) (e : Places) (s : State) (k : List Frame) (es : List Entry) →
     let all : EvaluatedAll = evaluated_all (trees_of args) e s in
     is_given true name (tree_count all.trees) ≡ false → find_pred true name (tree_count all.trees) preds ≡ Some pred →
-    goal_step v preds (apply name args into) gs e s k es ≡ function_step (Some pred) all into (behind gs k) es
+    goal_step v preds (apply name args into) e s (with_rest gs k es) ≡ function_step (Some pred) all into (behind gs k) es
 unfolding goal_step
 apply-comes-to v preds name args into pred gs e s k es none found =
     let all : EvaluatedAll = evaluated_all (trees_of args) e s in
     let m : ℕ = tree_count all.trees in
     let no_effect : (is_function name m ≡ false) × ((is_resource name m || is_later_function name m) ≡ false) = neither (is_function name m) (is_resource name m || is_later_function name m) none in
     let others : (is_resource name m ≡ false) × (is_later_function name m ≡ false) = neither (is_resource name m) (is_later_function name m) no_effect.1 in
-    ap (λ t. value_step v t preds name all into gs k es) (no-function name all.trees all.state no_effect.0)
-    ∙ (ap (λ b. other_value b v preds name all into gs k es) others.0
-    ∙ (ap (λ b. later_value b preds name all into (behind gs k) es) others.1 ∙ ap (λ p. function_step p all into (behind gs k) es) found))
+    ap (λ t. value_step v t preds (name_call name all) into (with_rest gs k es)) (no-function name all.trees all.state no_effect.0)
+    ∙ (ap (λ b. other_value b v preds (name_call name all) into (with_rest gs k es)) others.0
+    ∙ (ap (λ b. later_value b preds (name_call name all) into (behind gs k) es) others.1 ∙ ap (λ p. function_step p all into (behind gs k) es) found))
 
 -- what is built in
 pub effect-comes-to : (v : View) (preds : List PredTree) (name : List ℕ) (args : List Tree) (d : Effect) (gs : GoalTrees) (e : Places) (s : State) (k : List Frame) (es : List Entry) →
     let all : EvaluatedAll = evaluated_all (trees_of args) e s in
-    built_in_predicate name all.trees all.state ≡ Some d → goal_step v preds (call name args) gs e s k es ≡ silently (config (done_now v d gs all.slots k) es)
+    built_in_predicate name all.trees all.state ≡ Some d → goal_step v preds (call name args) e s (with_rest gs k es) ≡ silently (config (done_now v d gs all.slots k) es)
 unfolding goal_step
 effect-comes-to v preds name args d gs e s k es is =
     let all : EvaluatedAll = evaluated_all (trees_of args) e s in
-    ap (λ b. name_step b v preds name all gs k es) (no-call name all.trees all.state d is) ∙ ap (λ t. effect_step v t preds name all gs k es) is
+    ap (λ b. name_step b v preds (name_call name all) (with_rest gs k es)) (no-call name all.trees all.state d is) ∙ ap (λ t. effect_step v t preds (name_call name all) (with_rest gs k es)) is
 
 pub value-comes-to : (v : View) (preds : List PredTree) (name : List ℕ) (args : List Tree) (into : ℕ) (d : FunctionEffect) (gs : GoalTrees) (e : Places) (s : State) (k : List Frame) (es : List Entry) →
     let all : EvaluatedAll = evaluated_all (trees_of args) e s in
-    built_in_function name all.trees all.state ≡ Some d → goal_step v preds (apply name args into) gs e s k es ≡ silently (config (given_now d into gs all.slots k) es)
+    built_in_function name all.trees all.state ≡ Some d → goal_step v preds (apply name args into) e s (with_rest gs k es) ≡ silently (config (given_now d into gs all.slots k) es)
 unfolding goal_step
-value-comes-to v preds name args into d gs e s k es is = ap (λ t. value_step v t preds name (evaluated_all (trees_of args) e s) into gs k es) is
+value-comes-to v preds name args into d gs e s k es is = ap (λ t. value_step v t preds (name_call name (evaluated_all (trees_of args) e s)) into (with_rest gs k es)) is
 
 -- `call` of a term
 pub term-comes-to : (v : View) (preds : List PredTree) (name : List ℕ) (args : List Tree) (gs : GoalTrees) (e : Places) (s : State) (k : List Frame) (es : List Entry) →
     let all : EvaluatedAll = evaluated_all (trees_of args) e s in
     is_call name (tree_count all.trees) ≡ true →
-    goal_step v preds (call name args) gs e s k es ≡ deeper (config (first_now preds all.trees all.state (returning all.slots (behind gs k))) es)
+    goal_step v preds (call name args) e s (with_rest gs k es) ≡ deeper (config (first_now preds all.trees all.state (returning all.slots (behind gs k))) es)
 unfolding goal_step
-term-comes-to v preds name args gs e s k es is = ap (λ b. name_step b v preds name (evaluated_all (trees_of args) e s) gs k es) is
+term-comes-to v preds name args gs e s k es is = ap (λ b. name_step b v preds (name_call name (evaluated_all (trees_of args) e s)) (with_rest gs k es)) is

@@ -19,7 +19,7 @@ use Rattle.pi_meaning.specs.Shared.Raise.{raised_with}
 use Rattle.pi_meaning.specs.Shared.Level.{Level, Applied, Point, LevelBelow, PointBelow, same_but_level, calls_at, or_called, or_applied}
 use Rattle.pi_meaning.specs.CoreMeaning.Meaning.{Action, strictly, draining, ticking, calling, applying, meaning}
 use Rattle.pi_meaning.specs.CoreMeaning.Facts.{facts, fits_modes}
-use Rattle.pi_meaning.specs.CoreMeaning.Rules.{rules, body_run, pred_run, value_at, value_run, function_run, entered, call_run, application_run, calls_of, quiet_level, level_at}
+use Rattle.pi_meaning.specs.CoreMeaning.Rules.{rules, body_run, pred_run, value_at, value_run, function_run, entered, call_run, application_run, calls_of, quiet_level, level_at, rules_by}
 use Rattle.pi_meaning.specs.CoreMeaning.Run.{Solution, answered_with}
 use Rattle.pi_meaning.specs.Shared.Calls.{function_given}
 use Rattle.pi_core.specs.declared.core_program.NameSlot.{NameSlot}
@@ -124,7 +124,7 @@ bodies-return given l e k ts s [] = tt
 bodies-return given l e k ts s (c ∷ cs) = (λ i j p. body-returns given l e k c p, bodies-return given l e k ts s cs)
 
 rules-return : (given : Builtins) (l : Level) (e : Places) (k : List Frame) (ts : Trees) (s : State) (cs : List ClauseTree) →
-    then (rules given l (λ c. leaves_others false c) (λ i c p. body_run given c p) 0 cs ts s) (λ r. continued given l k (point l e r))
+    then (rules (rules_by given l (λ c. leaves_others false c) (λ i c p. body_run given c p)) 0 cs ts s) (λ r. continued given l k (point l e r))
     ≡ rules_trace given l (record { function = false; args = ts }) cs (back_to [] s (returning e k))
 unfolding rules_trace
 rules-return given l e k ts s cs =
@@ -147,13 +147,13 @@ body-run-under given adds l m h e k c p q r =
 -- the rules of a call under those at a higher level, with the return at another one
 rules-return-under : (given : Builtins) (adds : BuiltinsOnlyAdd given) (l n m : Level) → LevelBelow l n → LevelBelow l m → (e : Places) (k : List Frame) (ts : Trees) (s : State) (cs : List ClauseTree) →
     Under (rules_trace given l (record { function = false; args = ts }) cs (back_to [] s (returning e k)))
-    (then (rules given n (λ c. leaves_others false c) (λ i c p. body_run given c p) 0 cs ts s) (λ r. continued given m k (point m e r)))
+    (then (rules (rules_by given n (λ c. leaves_others false c) (λ i c p. body_run given c p)) 0 cs ts s) (λ r. continued given m k (point m e r)))
 rules-return-under given adds l n m a b e k ts s cs =
     let f : State → Trace Point = λ r. continued given l k (point l e r) in
     let g : State → Trace Point = λ r. continued given m k (point m e r) in
-    subst (λ t. Under t (then (rules given n (λ c. leaves_others false c) (λ i c p. body_run given c p) 0 cs ts s) g)) (rules-return given l e k ts s cs)
-    (subst (λ t. Under t (then (rules given n (λ c. leaves_others false c) (λ i c p. body_run given c p) 0 cs ts s) g)) (sym (rules-followed given l (λ c. leaves_others false c) (λ i c p. body_run given c p) 0 cs ts s f))
-    (subst (λ t. Under (rules given l (λ c. leaves_others false c) (λ i c p. then (body_run given c p) f) 0 cs ts s) t) (sym (rules-followed given n (λ c. leaves_others false c) (λ i c p. body_run given c p) 0 cs ts s g))
+    subst (λ t. Under t (then (rules (rules_by given n (λ c. leaves_others false c) (λ i c p. body_run given c p)) 0 cs ts s) g)) (rules-return given l e k ts s cs)
+    (subst (λ t. Under t (then (rules (rules_by given n (λ c. leaves_others false c) (λ i c p. body_run given c p)) 0 cs ts s) g)) (sym (rules-followed given l (λ c. leaves_others false c) (λ i c p. body_run given c p) 0 cs ts s f))
+    (subst (λ t. Under (rules (rules_by given l (λ c. leaves_others false c) (λ i c p. then (body_run given c p) f)) 0 cs ts s) t) (sym (rules-followed given n (λ c. leaves_others false c) (λ i c p. body_run given c p) 0 cs ts s g))
     (rules-by PointBelow given adds l n a (λ c. leaves_others false c) (λ i c p. then (body_run given c p) f) (λ i c p. then (body_run given c p) g)
     (λ i c p q r. body-run-under given adds l m b e k c p q r) 0 cs ts s)))
 
@@ -311,7 +311,7 @@ values-return given l ts s [] = tt
 values-return given l ts s (c ∷ cs) = (λ i j p. value-returns given l c p, values-return given l ts s cs)
 
 function-returns : (given : Builtins) (l : Level) (ts : Trees) (s : State) (cs : List ClauseTree) →
-    then (rules given l (λ c. leaves_others true c) (λ i c p. value_run given c p) 0 cs ts s) (λ a. one (valued l a)) ≡ rules_trace given l (record { function = true; args = ts }) cs (back_to [] s [])
+    then (rules (rules_by given l (λ c. leaves_others true c) (λ i c p. value_run given c p)) 0 cs ts s) (λ a. one (valued l a)) ≡ rules_trace given l (record { function = true; args = ts }) cs (back_to [] s [])
 unfolding rules_trace
 function-returns given l ts s cs =
     rules-followed given l (λ c. leaves_others true c) (λ i c p. value_run given c p) 0 cs ts s (λ a. one (valued l a))
@@ -353,7 +353,7 @@ value-at-under None p q r = end_by Done
 value-at-under (Some t) p q r = points-same (λ e s. let x : Evaluated = evaluated t e s in one (record { value = x.tree; state = x.state })) p q r
 
 values-under : (given : Builtins) (adds : BuiltinsOnlyAdd given) (l n : Level) → LevelBelow l n → (cs : List ClauseTree) (ts : Trees) (s : State) →
-    BelowBy Same (rules given l (λ c. leaves_others true c) (λ i c p. value_run given c p) 0 cs ts s) (rules given n (λ c. leaves_others true c) (λ i c p. value_run given c p) 0 cs ts s)
+    BelowBy Same (rules (rules_by given l (λ c. leaves_others true c) (λ i c p. value_run given c p)) 0 cs ts s) (rules (rules_by given n (λ c. leaves_others true c) (λ i c p. value_run given c p)) 0 cs ts s)
 values-under given adds l n h cs ts s =
     rules-by Same given adds l n h (λ c. leaves_others true c) (λ i c p. value_run given c p) (λ i c p. value_run given c p)
     (λ i c p q r. by-then PointBelow Same (strictly (meaning given c.body) p) (strictly (meaning given c.body) q) (value_at c.value) (value_at c.value)
@@ -365,8 +365,8 @@ function-under : (given : Builtins) (adds : BuiltinsOnlyAdd given) (l n m : Leve
     (then (function_run given n pred ts s) (with_value given m slots into k))
 unfolding level_trace function_run then
 function-under given adds l n m low h pred ts s slots into k =
-    let values : Trace Applied = rules given l (λ c. leaves_others true c) (λ i c p. value_run given c p) 0 pred.clauses ts s in
-    let higher : Trace Applied = rules given n (λ c. leaves_others true c) (λ i c p. value_run given c p) 0 pred.clauses ts s in
+    let values : Trace Applied = rules (rules_by given l (λ c. leaves_others true c) (λ i c p. value_run given c p)) 0 pred.clauses ts s in
+    let higher : Trace Applied = rules (rules_by given n (λ c. leaves_others true c) (λ i c p. value_run given c p)) 0 pred.clauses ts s in
     let take : Point → Trace Point = λ q. one (point l (slice_set slots into (held q.slots 0)) q.state) in
     let onward : Action = continued given l k in
     let raise : Trace Point = raised_with (codes "unresolved_function_call") (comp pred.name ts) s in

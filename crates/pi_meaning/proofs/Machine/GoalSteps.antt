@@ -19,11 +19,11 @@ use Rattle.pi_meaning.specs.Shared.Level.{Level, Point}
 use Rattle.pi_meaning.specs.Shared.Within.{is_body}
 use Rattle.pi_meaning.specs.Shared.Builtin.{written, effect_trace, settled_effect, function_trace}
 use Rattle.pi_meaning.specs.CoreMeaning.Meaning.{Action, with_slot, draining, strictly, succeeding, collecting, counting, meaning, meaning_of_any}
-use Rattle.pi_meaning.specs.CoreMeaning.Rules.{guarded, chosen_rule, rule_before, rules, value_at}
+use Rattle.pi_meaning.specs.CoreMeaning.Rules.{guarded, chosen_rule, rule_before, rules, value_at, rule_by}
 use Rattle.pi_meaning.proofs.Traces.TraceLemmas.{then-alt, alt-done}
 use Rattle.pi_meaning.specs.Machine.Configuration.{Frame, more, return, give, Back, Called, Strict, guard_level, list_level, number_level, Entry, strict, catch_level, Config, config, behind, after_body}
 use Rattle.pi_meaning.specs.Machine.Remaining.{point, valued, continued, run_from, start_of, body_of, rules_trace, choice_trace, level_trace, catch_trace, around, now_trace}
-use Rattle.pi_meaning.specs.Machine.Step.{back_to, inside, branch, later_rules, taken, guarding, tried, try_rules, written_now, done_now, given_now, frame_step}
+use Rattle.pi_meaning.specs.Machine.Step.{back_to, inside, branch, later_rules, taken, guarding, tried, try_rules, written_now, done_now, given_now, frame_step, trial}
 use Rattle.pi_meaning.proofs.Machine.RuleForms.{rules-anywhere}
 use Rattle.pi_meaning.proofs.Machine.RunLemmas.{CallsAre, draining-goes_on, behind-continued, goal-first, goal-alone, goal-strict, no-goal, remains}
 
@@ -104,7 +104,7 @@ later-rules-wait given l true called (c ∷ cs) b es t = refl
 
 -- a rule that applies
 pub rule-taken : (given : Builtins) (l : Level) (called : Called) (c : ClauseTree) (cs : List ClauseTree) (b : Back) (es : List Entry) (e : Places) (s : State) →
-    Is given l es (chosen_rule (leaves_others called.function c) (body_of given l called b c (point l e s)) (rules_trace given l called cs b)) (taken called c cs b es e s)
+    Is given l es (chosen_rule (leaves_others called.function c) (body_of given l called b c (point l e s)) (rules_trace given l called cs b)) (taken (trial called c cs b es) e s)
 unfolding now_trace
 rule-taken given l called c cs b es e s =
     later-rules-wait given l (leaves_others called.function c) called cs b es (body_of given l called b c (point l e s))
@@ -120,14 +120,14 @@ guard-begins : (given : Builtins) (l : Level) (g : GoalTree) (called : Called) (
 guard-begins given l g called c cs b es e = level-begins given l (guard_level called c cs) b g e b.state es
 
 guarding-is : (given : Builtins) (l : Level) (g : GoalTree) (called : Called) (c : ClauseTree) (cs : List ClauseTree) (b : Back) (es : List Entry) (e : Places) →
-    Is given l es (decided given l g called c cs b e) (guarding g called c cs b es e)
+    Is given l es (decided given l g called c cs b e) (guarding g (trial called c cs b es) e)
 unfolding chosen level_trace
 guarding-is given l truth called c cs b es e = rule-taken given l called c cs b es e b.state
 guarding-is given l g called c cs b es e = guard-begins given l g called c cs b es e
 
 rule-tried : (given : Builtins) (l : Level) (called : Called) (c : ClauseTree) (cs : List ClauseTree) (b : Back) (es : List Entry) (e : Option Places) →
     Is given l es (rules_trace given l called cs b) (try_rules called cs b es) →
-    Is given l es (rule_before given l c (leaves_others called.function c) (body_of given l called b c) b.state (rules_trace given l called cs b) e) (tried called c cs b es e (try_rules called cs b es))
+    Is given l es (rule_before given l (rule_by c (leaves_others called.function c) (body_of given l called b c)) b.state (rules_trace given l called cs b) e) (tried (trial called c cs b es) e (try_rules called cs b es))
 rule-tried given l called c cs b es None r = r
 rule-tried given l called c cs b es (Some e) r = guarding-is given l c.guard called c cs b es e
 
@@ -135,7 +135,7 @@ pub rules-tried : (given : Builtins) (l : Level) (called : Called) (cs : List Cl
 unfolding rules_trace rules try_rules now_trace
 rules-tried given l called [] b es = refl
 rules-tried given l called (c ∷ cs) b es =
-    ap (λ t. around given l es (rule_before given l c (leaves_others called.function c) (body_of given l called b c) b.state t (matched_all_in (bindings b.state) c.head called.args (replicate c.slots None))) [])
+    ap (λ t. around given l es (rule_before given l (rule_by c (leaves_others called.function c) (body_of given l called b c)) b.state t (matched_all_in (bindings b.state) c.head called.args (replicate c.slots None))) [])
     (rules-anywhere given l (λ d. leaves_others called.function d) (λ d p. body_of given l called b d p) 1 0 cs called.args b.state)
     ∙ rule-tried given l called c cs b es (matched_all_in (bindings b.state) c.head called.args (replicate c.slots None)) (rules-tried given l called cs b es)
 

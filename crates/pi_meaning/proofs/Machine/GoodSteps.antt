@@ -16,7 +16,7 @@ use Rattle.pi_meaning.specs.CoreMeaning.Run.{Solution}
 use Rattle.pi_syntax.specs.declared.program.Mode.{Mode}
 use Rattle.pi_core.specs.declared.core_program.NameSlot.{NameSlot}
 use Rattle.pi_meaning.specs.Machine.Configuration.{Frame, more, return, give, Back, Called, Choice, rules_left, facts_left, branches_left, Strict, once_level, not_level, if_level, guard_level, value_level, list_level, number_level, Entry, choice, strict, catch_level, left, Now, going, failed, raising, Config, config, behind, telling}
-use Rattle.pi_meaning.specs.Machine.Step.{back_to, branch, guarding, tried, try_rules, with_fact, from_unifying, later_facts, fact_tried, try_facts, try_clauses, later_rules, call_step, predicate_step, effect_step, function_step, value_step, goal_step, frame_step, Open, none_open, strict_open, catch_open, newest_open, strict_step, leave, fits, told_step, answer_step, choice_step, end_step, fail_step, below_left, raise_step, now_step, step, later_step, name_step, later_value, other_value}
+use Rattle.pi_meaning.specs.Machine.Step.{back_to, branch, guarding, tried, try_rules, with_fact, from_unifying, later_facts, fact_tried, try_facts, try_clauses, later_rules, call_step, predicate_step, effect_step, function_step, value_step, goal_step, frame_step, Open, none_open, strict_open, catch_open, newest_open, strict_step, leave, fits, told_step, answer_step, choice_step, end_step, fail_step, below_left, raise_step, now_step, step, later_step, name_step, later_value, other_value, trial, with_rest, name_call}
 use Rattle.pi_meaning.specs.Machine.Shape.{IsBalanced, IsGood}
 use Rattle.pi_meaning.specs.Machine.Laws.{GoesOnGood}
 use Rattle.pi_meaning.proofs.Machine.StackLemmas.{IsClosed, IsFound, newest-found}
@@ -72,13 +72,13 @@ later-keep false called cs b es h = h
 later-keep true called [] b es h = h
 later-keep true called (c ∷ cs) b es h = h
 
-guarding-keeps : (g : GoalTree) (called : Called) (c : ClauseTree) (cs : List ClauseTree) (b : Back) (es : List Entry) (e : Places) → IsBalanced 0 es → Keeps (guarding g called c cs b es e)
+guarding-keeps : (g : GoalTree) (called : Called) (c : ClauseTree) (cs : List ClauseTree) (b : Back) (es : List Entry) (e : Places) → IsBalanced 0 es → Keeps (guarding g (trial called c cs b es) e)
 unfolding IsBalanced
 guarding-keeps truth called c cs b es e h = later-keep (leaves_others called.function c) called cs b es h
 guarding-keeps g called c cs b es e h = h
 
 tried-keeps : (called : Called) (c : ClauseTree) (cs : List ClauseTree) (b : Back) (es : List Entry) (e : Option Places) (otherwise : Config) → IsBalanced 0 es → Keeps otherwise →
-    Keeps (tried called c cs b es e otherwise)
+    Keeps (tried (trial called c cs b es) e otherwise)
 tried-keeps called c cs b es None otherwise h o = o
 tried-keeps called c cs b es (Some e) otherwise h o = guarding-keeps c.guard called c cs b es e h
 
@@ -120,17 +120,17 @@ predicate-good None all k es h = record { balanced = h }
 predicate-good (Some pred) all k es h = call-good pred.quiet _ (record { balanced = clauses-keep pred.index pred.clauses all.trees _ _ h })
 
 later-good : (later : Bool) (preds : List PredTree) (name : List ℕ) (all : EvaluatedAll) (k : List Frame) (es : List Entry) → IsBalanced 0 es →
-    GoesOnGood (later_step later preds name all k es)
+    GoesOnGood (later_step later preds (name_call name all) k es)
 later-good true preds name all k es h = record { balanced = h }
 later-good false preds name all k es h = predicate-good (find_pred false name (tree_count all.trees) preds) all k es h
 
 effect-good : (v : View) (o : Option Effect) (preds : List PredTree) (name : List ℕ) (all : EvaluatedAll) (gs : GoalTrees) (k : List Frame) (es : List Entry) → IsBalanced 0 es →
-    GoesOnGood (effect_step v o preds name all gs k es)
+    GoesOnGood (effect_step v o preds (name_call name all) (with_rest gs k es))
 effect-good v None preds name all gs k es h = later-good (is_later_predicate name (tree_count all.trees)) preds name all (behind gs k) es h
 effect-good v (Some d) preds name all gs k es h = record { balanced = h }
 
 name-good : (called : Bool) (v : View) (preds : List PredTree) (name : List ℕ) (all : EvaluatedAll) (gs : GoalTrees) (k : List Frame) (es : List Entry) → IsBalanced 0 es →
-    GoesOnGood (name_step called v preds name all gs k es)
+    GoesOnGood (name_step called v preds (name_call name all) (with_rest gs k es))
 name-good true v preds name all gs k es h = record { balanced = h }
 name-good false v preds name all gs k es h = effect-good v (built_in_predicate name all.trees all.state) preds name all gs k es h
 
@@ -140,22 +140,22 @@ function-good None all into k es h = record { balanced = h }
 function-good (Some pred) all into k es h = call-good pred.quiet _ (record { balanced = rules-keep _ _ _ _ h })
 
 later-value-good : (later : Bool) (preds : List PredTree) (name : List ℕ) (all : EvaluatedAll) (into : ℕ) (k : List Frame) (es : List Entry) → IsBalanced 0 es →
-    GoesOnGood (later_value later preds name all into k es)
+    GoesOnGood (later_value later preds (name_call name all) into k es)
 later-value-good true preds name all into k es h = record { balanced = h }
 later-value-good false preds name all into k es h = function-good (find_pred true name (tree_count all.trees) preds) all into k es h
 
 other-value-good : (resource : Bool) (v : View) (preds : List PredTree) (name : List ℕ) (all : EvaluatedAll) (into : ℕ) (gs : GoalTrees) (k : List Frame) (es : List Entry) → IsBalanced 0 es →
-    GoesOnGood (other_value resource v preds name all into gs k es)
+    GoesOnGood (other_value resource v preds (name_call name all) into (with_rest gs k es))
 other-value-good true v preds name all into gs k es h = record { balanced = h }
 other-value-good false v preds name all into gs k es h = later-value-good (is_later_function name (tree_count all.trees)) preds name all into (behind gs k) es h
 
 value-good : (v : View) (o : Option FunctionEffect) (preds : List PredTree) (name : List ℕ) (all : EvaluatedAll) (into : ℕ) (gs : GoalTrees) (k : List Frame) (es : List Entry) → IsBalanced 0 es →
-    GoesOnGood (value_step v o preds name all into gs k es)
+    GoesOnGood (value_step v o preds (name_call name all) into (with_rest gs k es))
 value-good v None preds name all into gs k es h = other-value-good (is_resource name (tree_count all.trees)) v preds name all into gs k es h
 value-good v (Some d) preds name all into gs k es h = record { balanced = h }
 
 goal-good : (v : View) (preds : List PredTree) (g : GoalTree) (gs : GoalTrees) (e : Places) (s : State) (k : List Frame) (es : List Entry) → IsBalanced 0 es →
-    GoesOnGood (goal_step v preds g gs e s k es)
+    GoesOnGood (goal_step v preds g e s (with_rest gs k es))
 unfolding goal_step IsBalanced
 goal-good v preds truth gs e s k es h = record { balanced = h }
 goal-good v preds fail gs e s k es h = record { balanced = h }

@@ -21,7 +21,7 @@ use Rattle.pi_meaning.specs.Shared.Level.{Level, Point, LevelBelow, PointBelow, 
 use Rattle.pi_meaning.specs.CoreMeaning.Meaning.{Action, draining, with_slot, slot_value, copyable, with_list, meaning, meaning_of_all, meaning_of_any}
 use Rattle.pi_meaning.specs.Shared.Handling.{handled_in, handling}
 use Rattle.pi_meaning.specs.CoreMeaning.Facts.{facts}
-use Rattle.pi_meaning.specs.CoreMeaning.Rules.{guarded, chosen_rule, rule_before, rules, value_at}
+use Rattle.pi_meaning.specs.CoreMeaning.Rules.{guarded, chosen_rule, rule_before, rules, value_at, rule_by, rules_by}
 use Rattle.pi_meaning.specs.CoreMeaning.Run.{answered_with}
 use Rattle.pi_core.specs.declared.core_program.NameSlot.{NameSlot}
 use Rattle.pi_meaning.proofs.Traces.BelowLemmas.{below-refl}
@@ -104,7 +104,7 @@ guarded-under given adds l m h g e s = strict-below given adds g (point l e s) (
 
 rule-by : {X : Type 0} (R : X → X → Type 0) (given : Builtins) (adds : BuiltinsOnlyAdd given) (l m : Level) → LevelBelow l m → (c : ClauseTree) (back : Bool) (does other : Point → Trace X) →
     ((p q : Point) → PointBelow p q → BelowBy R (does p) (other q)) → (s : State) (rest rest' : Trace X) → BelowBy R rest rest' → (e : Option Places) →
-    BelowBy R (rule_before given l c back does s rest e) (rule_before given m c back other s rest' e)
+    BelowBy R (rule_before given l (rule_by c back does) s rest e) (rule_before given m (rule_by c back other) s rest' e)
 rule-by R given adds l m h c back does other d s rest rest' r None = r
 rule-by R given adds l m h c back does other d s rest rest' r (Some e) =
     by-chosen PointBelow R (guarded given c.guard (point l e s)) (guarded given c.guard (point m e s))
@@ -114,11 +114,11 @@ rule-by R given adds l m h c back does other d s rest rest' r (Some e) =
 
 pub rules-by : {X : Type 0} (R : X → X → Type 0) (given : Builtins) (adds : BuiltinsOnlyAdd given) (l m : Level) → LevelBelow l m → (back : ClauseTree → Bool) (does other : ℕ → ClauseTree → Point → Trace X) →
     ((i : ℕ) (c : ClauseTree) (p q : Point) → PointBelow p q → BelowBy R (does i c p) (other i c q)) →
-    (i : ℕ) (cs : List ClauseTree) (ts : Trees) (s : State) → BelowBy R (rules given l back does i cs ts s) (rules given m back other i cs ts s)
+    (i : ℕ) (cs : List ClauseTree) (ts : Trees) (s : State) → BelowBy R (rules (rules_by given l back does) i cs ts s) (rules (rules_by given m back other) i cs ts s)
 unfolding rules
 rules-by R given adds l m h back does other d i [] ts s = end_by Done
 rules-by R given adds l m h back does other d i (c ∷ cs) ts s =
-    rule-by R given adds l m h c (back c) (does i c) (other i c) (d i c) s (rules given l back does (suc i) cs ts s) (rules given m back other (suc i) cs ts s)
+    rule-by R given adds l m h c (back c) (does i c) (other i c) (d i c) s (rules (rules_by given l back does) (suc i) cs ts s) (rules (rules_by given m back other) (suc i) cs ts s)
     (rules-by R given adds l m h back does other d (suc i) cs ts s) (matched_all_in (bindings s) c.head ts (replicate c.slots None))
 
 rules-under : (given : Builtins) (adds : BuiltinsOnlyAdd given) (l m : Level) → LevelBelow l m → (called : Called) (cs : List ClauseTree) (b : Back) → Under (rules_trace given l called cs b) (rules_trace given m called cs b)

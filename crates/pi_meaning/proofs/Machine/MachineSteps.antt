@@ -26,7 +26,7 @@ use Rattle.pi_core.specs.declared.core_program.NameSlot.{NameSlot}
 use Rattle.pi_meaning.proofs.Shared.CallLemmas.{no-later-adds, whole-adds}
 use Rattle.pi_meaning.specs.Machine.Configuration.{Frame, Back, once_level, not_level, if_level, list_level, number_level, Entry, choice, strict, catch_level, left, Now, going, failed, raising, Config, config, behind, telling}
 use Rattle.pi_meaning.specs.Machine.Remaining.{run_from, point, continued, level_trace, catch_trace, around, now_trace, remaining_at}
-use Rattle.pi_meaning.specs.Machine.Step.{silently, back_to, inside, branch, frame_step, strict_step, leave, choice_step, end_step, handler_step, below_left, predicate_step, effect_step, function_step, goal_step, Open, none_open, strict_open, catch_open, newest_open, fits, told_step, answer_step, fail_step, raise_step, now_step, step, done_now, value_step, given_now, unknown_ball, later_step, name_step, resource_effect, later_value, other_value}
+use Rattle.pi_meaning.specs.Machine.Step.{silently, back_to, inside, branch, frame_step, strict_step, leave, choice_step, end_step, handler_step, below_left, predicate_step, effect_step, function_step, goal_step, Open, none_open, strict_open, catch_open, newest_open, fits, told_step, answer_step, fail_step, raise_step, now_step, step, done_now, value_step, given_now, unknown_ball, later_step, name_step, resource_effect, later_value, other_value, with_rest, name_call}
 use Rattle.pi_meaning.specs.Machine.Shape.{IsBalanced, IsGood}
 use Rattle.pi_meaning.specs.Machine.Built.{AreOfRules}
 use Rattle.pi_meaning.specs.Machine.Laws.{Comes}
@@ -98,7 +98,7 @@ later-step-comes : (v : View) (preds : List PredTree) (names : List NameSlot) (n
     AreOfRules preds → IsBalanced 0 es →
     let all : EvaluatedAll = evaluated_all (trees_of args) e s in
     is_call name (tree_count all.trees) ≡ false → built_in_predicate name all.trees all.state ≡ None → (later : Bool) → is_later_predicate name (tree_count all.trees) ≡ later →
-    Comes v preds names (config (going (goal (call name args) gs) e s k) es) (later_step later preds name all (behind gs k) es)
+    Comes v preds names (config (going (goal (call name args) gs) e s k) es) (later_step later preds (name_call name all) (behind gs k) es)
 unfolding then now_trace
 later-step-comes v preds names name args gs e s k es sound b other none true is =
     let all : EvaluatedAll = evaluated_all (trees_of args) e s in
@@ -112,7 +112,7 @@ effect-step-comes : (v : View) (preds : List PredTree) (names : List NameSlot) (
     AreOfRules preds → IsBalanced 0 es →
     let all : EvaluatedAll = evaluated_all (trees_of args) e s in
     is_call name (tree_count all.trees) ≡ false → (o : Option Effect) → built_in_predicate name all.trees all.state ≡ o →
-    Comes v preds names (config (going (goal (call name args) gs) e s k) es) (effect_step v o preds name all gs k es)
+    Comes v preds names (config (going (goal (call name args) gs) e s k) es) (effect_step v o preds (name_call name all) (with_rest gs k es))
 effect-step-comes v preds names name args gs e s k es sound b other None f =
     let all : EvaluatedAll = evaluated_all (trees_of args) e s in
     later-step-comes v preds names name args gs e s k es sound b other f (is_later_predicate name (tree_count all.trees)) refl
@@ -124,7 +124,7 @@ effect-step-comes v preds names name args gs e s k es sound b other (Some d) f =
 name-step-comes : (v : View) (preds : List PredTree) (names : List NameSlot) (name : List ℕ) (args : List Tree) (gs : GoalTrees) (e : Places) (s : State) (k : List Frame) (es : List Entry) →
     AreOfRules preds → IsBalanced 0 es →
     let all : EvaluatedAll = evaluated_all (trees_of args) e s in
-    (called : Bool) → is_call name (tree_count all.trees) ≡ called → Comes v preds names (config (going (goal (call name args) gs) e s k) es) (name_step called v preds name all gs k es)
+    (called : Bool) → is_call name (tree_count all.trees) ≡ called → Comes v preds names (config (going (goal (call name args) gs) e s k) es) (name_step called v preds (name_call name all) (with_rest gs k es))
 name-step-comes v preds names name args gs e s k es sound b true is = call-comes v preds names name args gs e s k es is
 name-step-comes v preds names name args gs e s k es sound b false is =
     let all : EvaluatedAll = evaluated_all (trees_of args) e s in
@@ -161,7 +161,7 @@ later-value-comes : (v : View) (preds : List PredTree) (names : List NameSlot) (
     IsBalanced 0 es →
     let all : EvaluatedAll = evaluated_all (trees_of args) e s in
     built_in_function name all.trees all.state ≡ None → is_resource name (tree_count all.trees) ≡ false → (later : Bool) → is_later_function name (tree_count all.trees) ≡ later →
-    Comes v preds names (config (going (goal (apply name args into) gs) e s k) es) (later_value later preds name all into (behind gs k) es)
+    Comes v preds names (config (going (goal (apply name args into) gs) e s k) es) (later_value later preds (name_call name all) into (behind gs k) es)
 unfolding then now_trace
 later-value-comes v preds names name args into gs e s k es b none other true is =
     let all : EvaluatedAll = evaluated_all (trees_of args) e s in
@@ -187,7 +187,7 @@ other-value-comes : (v : View) (preds : List PredTree) (names : List NameSlot) (
     IsBalanced 0 es →
     let all : EvaluatedAll = evaluated_all (trees_of args) e s in
     built_in_function name all.trees all.state ≡ None → (resource : Bool) → is_resource name (tree_count all.trees) ≡ resource →
-    Comes v preds names (config (going (goal (apply name args into) gs) e s k) es) (other_value resource v preds name all into gs k es)
+    Comes v preds names (config (going (goal (apply name args into) gs) e s k) es) (other_value resource v preds (name_call name all) into (with_rest gs k es))
 other-value-comes v preds names name args into gs e s k es b none true is =
     let all : EvaluatedAll = evaluated_all (trees_of args) e s in
     effect-value-comes v preds names name args into gs e s k es (resource_effect v.within all.state)
@@ -200,7 +200,7 @@ value-step-comes : (v : View) (preds : List PredTree) (names : List NameSlot) (n
     IsBalanced 0 es →
     let all : EvaluatedAll = evaluated_all (trees_of args) e s in
     (o : Option FunctionEffect) → built_in_function name all.trees all.state ≡ o →
-    Comes v preds names (config (going (goal (apply name args into) gs) e s k) es) (value_step v o preds name all into gs k es)
+    Comes v preds names (config (going (goal (apply name args into) gs) e s k) es) (value_step v o preds (name_call name all) into (with_rest gs k es))
 value-step-comes v preds names name args into gs e s k es b None f =
     let all : EvaluatedAll = evaluated_all (trees_of args) e s in
     other-value-comes v preds names name args into gs e s k es b f (is_resource name (tree_count all.trees)) refl
@@ -209,7 +209,7 @@ value-step-comes v preds names name args into gs e s k es b (Some d) f =
     effect-value-comes v preds names name args into gs e s k es d (gives-value v preds name all.trees all.state d f)
 
 goal-comes : (v : View) (preds : List PredTree) (names : List NameSlot) (g : GoalTree) (gs : GoalTrees) (e : Places) (s : State) (k : List Frame) (es : List Entry) →
-    AreOfRules preds → IsBalanced 0 es → Comes v preds names (config (going (goal g gs) e s k) es) (goal_step v preds g gs e s k es)
+    AreOfRules preds → IsBalanced 0 es → Comes v preds names (config (going (goal g gs) e s k) es) (goal_step v preds g e s (with_rest gs k es))
 unfolding goal_step meaning then now_trace level_trace remaining_at catching catch_trace
 goal-comes v preds names truth gs e s k es sound b =
     goal-silent v preds names truth succeeding refl gs e s k es (config (going gs e s k) es) (λ l h. ap (λ t. around (language v preds) l es t []) (truth-goes_on (language v preds) l gs e s k))

@@ -14,7 +14,7 @@ use Rattle.pi_constraints.specs.HeadMatch.{matched_all_in}
 use Rattle.pi_syntax.specs.declared.program.Mode.{Mode}
 use Rattle.pi_effects.specs.Effect.{Effect, Succeeds, Fails, Writes, Raises, FunctionEffect, Gives, Refuses}
 use Rattle.pi_meaning.specs.Machine.Configuration.{Frame, more, return, give, Back, Called, Entry, going, failed, Config, config}
-use Rattle.pi_meaning.specs.Machine.Step.{branch, taken, guarding, tried, try_rules, with_fact, from_unifying, later_facts, fact_tried, try_facts, try_clauses, later_rules, frame_step, written_now, done_now, given_now}
+use Rattle.pi_meaning.specs.Machine.Step.{branch, taken, guarding, tried, try_rules, with_fact, from_unifying, later_facts, fact_tried, try_facts, try_clauses, later_rules, frame_step, written_now, done_now, given_now, trial}
 use Rattle.pi_meaning.specs.Machine.Weight.{CallWeights, goal_weight, goals_weight, branches_weight, going_weight, frames_weight, body_behind, rules_weight, facts_weight, strict_answer_weight, answer_weight, choice_weight, strict_weight, stack_weight, now_weight, weight_by, clauses_weight}
 use Rattle.pi_meaning.proofs.Machine.WeightLemmas.{after-weight}
 
@@ -66,7 +66,7 @@ later-weight calls true called (c ∷ cs) b es = omega arith
 
 pub taken-lighter : (calls : CallWeights) (called : Called) (c : ClauseTree) (cs : List ClauseTree) (b : Back) (es : List Entry) (e : Places) (s : State) →
     let w : ℕ = body_behind called.function (frames_weight calls b.frames (answer_weight calls 0 es)) (answer_weight calls 0 es) in
-    weight_by calls (taken called c cs b es e s) ≤ goal_weight calls c.body w + (suc (rules_weight calls cs w) + stack_weight calls es)
+    weight_by calls (taken (trial called c cs b es) e s) ≤ goal_weight calls c.body w + (suc (rules_weight calls cs w) + stack_weight calls es)
 unfolding weight_by now_weight goals_weight
 taken-lighter calls called c cs b es e s =
     let k : _ = later-weight calls (leaves_others called.function c) called cs b es in
@@ -74,14 +74,14 @@ taken-lighter calls called c cs b es e s =
 
 guarding-lighter : (calls : CallWeights) (g : GoalTree) (called : Called) (c : ClauseTree) (cs : List ClauseTree) (b : Back) (es : List Entry) (e : Places) →
     let w : ℕ = body_behind called.function (frames_weight calls b.frames (answer_weight calls 0 es)) (answer_weight calls 0 es) in
-    weight_by calls (guarding g called c cs b es e) ≤ goal_weight calls g (suc (goal_weight calls c.body w)) + suc (rules_weight calls cs w) + stack_weight calls es
+    weight_by calls (guarding g (trial called c cs b es) e) ≤ goal_weight calls g (suc (goal_weight calls c.body w)) + suc (rules_weight calls cs w) + stack_weight calls es
 unfolding weight_by now_weight stack_weight answer_weight frames_weight strict_answer_weight strict_weight goals_weight goal_weight
 guarding-lighter calls truth called c cs b es e = let k : _ = taken-lighter calls called c cs b es e b.state in omega arith
 guarding-lighter calls g called c cs b es e = omega arith
 
 tried-lighter : (calls : CallWeights) (called : Called) (c : ClauseTree) (cs : List ClauseTree) (b : Back) (es : List Entry) (e : Option Places) (otherwise : Config) →
     let w : ℕ = body_behind called.function (frames_weight calls b.frames (answer_weight calls 0 es)) (answer_weight calls 0 es) in
-    weight_by calls otherwise ≤ rules_weight calls cs w + stack_weight calls es → weight_by calls (tried called c cs b es e otherwise) ≤ rules_weight calls (c ∷ cs) w + stack_weight calls es
+    weight_by calls otherwise ≤ rules_weight calls cs w + stack_weight calls es → weight_by calls (tried (trial called c cs b es) e otherwise) ≤ rules_weight calls (c ∷ cs) w + stack_weight calls es
 unfolding rules_weight
 tried-lighter calls called c cs b es None otherwise h = omega arith
 tried-lighter calls called c cs b es (Some e) otherwise h = guarding-lighter calls c.guard called c cs b es e

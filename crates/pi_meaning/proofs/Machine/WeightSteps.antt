@@ -16,7 +16,7 @@ use Rattle.pi_meaning.specs.CoreMeaning.Meaning.{slot_value}
 use Rattle.pi_meaning.specs.CoreMeaning.Run.{Solution}
 use Rattle.pi_core.specs.declared.core_program.NameSlot.{NameSlot}
 use Rattle.pi_meaning.specs.Machine.Configuration.{Frame, Back, Choice, rules_left, facts_left, branches_left, Strict, once_level, not_level, if_level, guard_level, value_level, list_level, number_level, Entry, choice, strict, catch_level, left, Now, going, failed, raising, Config, config, behind, returning, telling}
-use Rattle.pi_meaning.specs.Machine.Step.{back_to, branch, try_clauses, call_step, predicate_step, effect_step, function_step, goal_step, Open, none_open, strict_open, catch_open, newest_open, strict_step, leave, fits, told_step, answer_step, choice_step, end_step, fail_step, handler_step, below_left, raise_step, now_step, step, done_now, given_now, value_step, later_step, name_step, later_value, other_value, resource_effect, silently}
+use Rattle.pi_meaning.specs.Machine.Step.{back_to, branch, try_clauses, call_step, predicate_step, effect_step, function_step, goal_step, Open, none_open, strict_open, catch_open, newest_open, strict_step, leave, fits, told_step, answer_step, choice_step, end_step, fail_step, handler_step, below_left, raise_step, now_step, step, done_now, given_now, value_step, later_step, name_step, later_value, other_value, resource_effect, silently, with_rest, name_call}
 use Rattle.pi_meaning.specs.Machine.Shape.{IsBalanced, IsGood}
 use Rattle.pi_meaning.specs.Machine.Weight.{CallWeights, goal_weight, goals_weight, branches_weight, going_weight, frames_weight, strict_answer_weight, answer_weight, choice_weight, strict_weight, stack_weight, now_weight, weight_by, weight, GetsLighter, call_weight, clauses_weight, inside_weight, program_calls}
 use Rattle.pi_meaning.proofs.Machine.StackLemmas.{IsClosed, IsFound, newest-found}
@@ -71,7 +71,7 @@ function-lighter preds (Some pred) name all into k es c found free h = call-ligh
     omega arith)
 
 later-lighter : (later : Bool) (preds : List PredTree) (name : List ℕ) (all : EvaluatedAll) (k : List Frame) (es : List Entry) (c : Config) → is_later_predicate name (tree_count all.trees) ≡ later →
-    is_call name (tree_count all.trees) ≡ false → is_predicate name (tree_count all.trees) ≡ false → CallWeighs preds false name all k es c → GetsLighter preds c (later_step later preds name all k es)
+    is_call name (tree_count all.trees) ≡ false → is_predicate name (tree_count all.trees) ≡ false → CallWeighs preds false name all k es c → GetsLighter preds c (later_step later preds (name_call name all) k es)
 unfolding weight_by now_weight
 later-lighter true preds name all k es c is no_call built h = omega arith
 later-lighter false preds name all k es c is no_call built h =
@@ -81,7 +81,7 @@ later-lighter false preds name all k es c is no_call built h =
 effect-step-lighter : (v : View) (o : Option Effect) (preds : List PredTree) (name : List ℕ) (args : List Tree) (e : Places) (s : State) (gs : GoalTrees) (k : List Frame) (es : List Entry) →
     let all : EvaluatedAll = evaluated_all (trees_of args) e s in
     built_in_predicate name all.trees all.state ≡ o → is_call name (tree_count all.trees) ≡ false →
-    GetsLighter preds (config (going (goal (call name args) gs) e s k) es) (effect_step v o preds name all gs k es)
+    GetsLighter preds (config (going (goal (call name args) gs) e s k) es) (effect_step v o preds (name_call name all) (with_rest gs k es))
 unfolding weight_by now_weight goal_weight
 effect-step-lighter v None preds name args e s gs k es is other =
     let all : EvaluatedAll = evaluated_all (trees_of args) e s in
@@ -105,7 +105,7 @@ effect-step-lighter v (Some d) preds name args e s gs k es is other =
 -- `call`, and any other name
 name-lighter : (called : Bool) (v : View) (preds : List PredTree) (name : List ℕ) (args : List Tree) (e : Places) (s : State) (gs : GoalTrees) (k : List Frame) (es : List Entry) →
     let all : EvaluatedAll = evaluated_all (trees_of args) e s in
-    is_call name (tree_count all.trees) ≡ called → GetsLighter preds (config (going (goal (call name args) gs) e s k) es) (name_step called v preds name all gs k es)
+    is_call name (tree_count all.trees) ≡ called → GetsLighter preds (config (going (goal (call name args) gs) e s k) es) (name_step called v preds (name_call name all) (with_rest gs k es))
 unfolding weight_by now_weight goal_weight
 name-lighter true v preds name args e s gs k es is =
     let all : EvaluatedAll = evaluated_all (trees_of args) e s in
@@ -122,7 +122,7 @@ name-lighter false v preds name args e s gs k es is =
     effect-step-lighter v (built_in_predicate name all.trees all.state) preds name args e s gs k es refl is
 
 later-value-lighter : (later : Bool) (preds : List PredTree) (name : List ℕ) (all : EvaluatedAll) (into : ℕ) (k : List Frame) (es : List Entry) (c : Config) → is_later_function name (tree_count all.trees) ≡ later →
-    is_resource name (tree_count all.trees) ≡ false → is_function name (tree_count all.trees) ≡ false → CallWeighs preds true name all k es c → GetsLighter preds c (later_value later preds name all into k es)
+    is_resource name (tree_count all.trees) ≡ false → is_function name (tree_count all.trees) ≡ false → CallWeighs preds true name all k es c → GetsLighter preds c (later_value later preds (name_call name all) into k es)
 unfolding weight_by now_weight
 later-value-lighter true preds name all into k es c is resource built h = omega arith
 later-value-lighter false preds name all into k es c is resource built h =
@@ -142,7 +142,7 @@ value-given-lighter preds d name args into e s all gs k es =
 other-value-lighter : (resource : Bool) (v : View) (preds : List PredTree) (name : List ℕ) (args : List Tree) (into : ℕ) (e : Places) (s : State) (gs : GoalTrees) (k : List Frame) (es : List Entry) →
     let all : EvaluatedAll = evaluated_all (trees_of args) e s in
     is_resource name (tree_count all.trees) ≡ resource → is_function name (tree_count all.trees) ≡ false →
-    GetsLighter preds (config (going (goal (apply name args into) gs) e s k) es) (other_value resource v preds name all into gs k es)
+    GetsLighter preds (config (going (goal (apply name args into) gs) e s k) es) (other_value resource v preds (name_call name all) into (with_rest gs k es))
 unfolding weight_by now_weight goal_weight
 other-value-lighter true v preds name args into e s gs k es is built =
     let all : EvaluatedAll = evaluated_all (trees_of args) e s in value-given-lighter preds (resource_effect v.within all.state) name args into e s all gs k es
@@ -157,7 +157,7 @@ other-value-lighter false v preds name args into e s gs k es is built =
 
 value-step-lighter : (v : View) (o : Option FunctionEffect) (preds : List PredTree) (name : List ℕ) (args : List Tree) (into : ℕ) (e : Places) (s : State) (gs : GoalTrees) (k : List Frame) (es : List Entry) →
     let all : EvaluatedAll = evaluated_all (trees_of args) e s in
-    built_in_function name all.trees all.state ≡ o → GetsLighter preds (config (going (goal (apply name args into) gs) e s k) es) (value_step v o preds name all into gs k es)
+    built_in_function name all.trees all.state ≡ o → GetsLighter preds (config (going (goal (apply name args into) gs) e s k) es) (value_step v o preds (name_call name all) into (with_rest gs k es))
 value-step-lighter v None preds name args into e s gs k es is =
     let all : EvaluatedAll = evaluated_all (trees_of args) e s in
     other-value-lighter (is_resource name (tree_count all.trees)) v preds name args into e s gs k es refl (sym (functions-listed name all.trees all.state) ∙ ap is_some is)
@@ -165,7 +165,7 @@ value-step-lighter v (Some d) preds name args into e s gs k es is =
     let all : EvaluatedAll = evaluated_all (trees_of args) e s in value-given-lighter preds d name args into e s all gs k es
 
 goal-lighter : (v : View) (preds : List PredTree) (g : GoalTree) (gs : GoalTrees) (e : Places) (s : State) (k : List Frame) (es : List Entry) →
-    GetsLighter preds (config (going (goal g gs) e s k) es) (goal_step v preds g gs e s k es)
+    GetsLighter preds (config (going (goal g gs) e s k) es) (goal_step v preds g e s (with_rest gs k es))
 unfolding goal_step weight_by now_weight stack_weight answer_weight goal_weight goals_weight frames_weight strict_answer_weight strict_weight
 goal-lighter v preds truth gs e s k es =
     let calls : CallWeights = program_calls preds in

@@ -22,7 +22,7 @@ use Rattle.pi_meaning.specs.Shared.View.{View}
 use Rattle.pi_meaning.specs.OverNames.Stages.{LaterStages, RulesSetting}
 use Rattle.pi_meaning.specs.OverNames.Control.{strictly}
 use Rattle.pi_meaning.specs.OverNames.Goals.{goal_of}
-use Rattle.pi_meaning.specs.OverNames.Rules.{predicate_head, fact_head, function_in, is_head_of, heads_named, first_modes, modes_before, modes_named, rules_called, facts_called, functions_called, calls_by, level_for, predicate_run, function_run}
+use Rattle.pi_meaning.specs.OverNames.Rules.{predicate_head, fact_head, function_in, is_head_of, heads_named, first_modes, modes_before, modes_named, rules_called, facts_called, functions_called, calls_by, level_for, predicate_run, function_run, call_made}
 use Rattle.pi_core.specs.CoreTree.{index_of}
 use Rattle.pi_meaning.specs.OverNames.Prelude.{prelude}
 use Rattle.pi_meaning.specs.OverNames.Run.{is_some_head, setting, answer_names, names_from, names_trace}
@@ -51,16 +51,16 @@ modes-kept name k [] = refl
 modes-kept name k (p ∷ ps) = mode-kept name k p.decl p.clause ps (modes-kept name k ps)
 
 run-kept : (set : RulesSetting) (ps : ProgramTree) (l : Level) (name : List ℕ) (ts : Trees) (s : State) (o : Option (List (List Mode))) →
-    predicate_run set (clausal ps) l name ts s o ≡ predicate_run set ps l name ts s o
+    predicate_run set (clausal ps) name (call_made l ts s) o ≡ predicate_run set ps name (call_made l ts s) o
 run-kept set ps l name ts s None =
-    ap (λ (rs : List RuleTree). rules_called set (comp name ts) 0 (filter (is_rule_of name (tree_count ts)) rs) l ts s) (parts-kept rule_in refl ps)
+    ap (λ (rs : List RuleTree). rules_called set (comp name ts) 0 (filter (is_rule_of name (tree_count ts)) rs) (call_made l ts s)) (parts-kept rule_in refl ps)
 run-kept set ps l name ts s (Some lists) =
     ap (λ (fs : List ExpTree). cond (list_any (λ modes. fits_modes (bindings s) modes ts) lists) (facts_called (filter (is_head_of name (tree_count ts)) fs) ts s) done) (parts-kept fact_head refl ps)
 
 called-kept : (set : RulesSetting) (ps : ProgramTree) (name : List ℕ) (ts : Trees) (s : State) (l : Level) →
-    predicate_run set (clausal ps) l name ts s (modes_named name (tree_count ts) (clausal ps)) ≡ predicate_run set ps l name ts s (modes_named name (tree_count ts) ps)
+    predicate_run set (clausal ps) name (call_made l ts s) (modes_named name (tree_count ts) (clausal ps)) ≡ predicate_run set ps name (call_made l ts s) (modes_named name (tree_count ts) ps)
 called-kept set ps name ts s l =
-    ap (λ (o : Option (List (List Mode))). predicate_run set (clausal ps) l name ts s o) (modes-kept name (tree_count ts) ps)
+    ap (λ (o : Option (List (List Mode))). predicate_run set (clausal ps) name (call_made l ts s) o) (modes-kept name (tree_count ts) ps)
     ∙ run-kept set ps l name ts s (modes_named name (tree_count ts) ps)
 
 applied-kept : (set : RulesSetting) (ps : ProgramTree) (name : List ℕ) (ts : Trees) (s : State) (l : Level) → function_run set (clausal ps) l name ts s ≡ function_run set ps l name ts s
@@ -77,7 +77,7 @@ unfolding calls_by calls-with
 calls-kept set ps below =
     ap (λ f. calls-with f (λ name ts s. ticked below (λ l. function_run set (clausal ps) l name ts s)))
     (fun_ext (λ name. fun_ext (λ ts. fun_ext (λ s. ap (ticked below) (fun_ext (called-kept set ps name ts s))))))
-    ∙ ap (calls-with (λ name ts s. ticked below (λ l. predicate_run set ps l name ts s (modes_named name (tree_count ts) ps))))
+    ∙ ap (calls-with (λ name ts s. ticked below (λ l. predicate_run set ps name (call_made l ts s) (modes_named name (tree_count ts) ps))))
     (fun_ext (λ name. fun_ext (λ ts. fun_ext (λ s. ap (ticked below) (fun_ext (applied-kept set ps name ts s))))))
 
 level-kept : (set : RulesSetting) (ps : ProgramTree) (d : ℕ) → level_for set (clausal ps) d ≡ level_for set ps d

@@ -21,7 +21,7 @@ use Rattle.pi_meaning.specs.OverNames.Terms.{items_onto}
 use Rattle.pi_meaning.specs.OverNames.Heads.{pattern_matched}
 use Rattle.pi_meaning.specs.Shared.Given.{Setting}
 use Rattle.pi_meaning.specs.OverNames.Control.{Goal, Value, draining, strictly, choosing, nothing, in_front, applied_to}
-use Rattle.pi_meaning.specs.OverNames.Loops.{Finish, as_it_is, closed, opened, framed, matched_turn, element, elements, if_numbered, items_then, iterating, turning, unit, while_turns, do_turns, hidden, so_far, adding, comprehended}
+use Rattle.pi_meaning.specs.OverNames.Loops.{Finish, as_it_is, closed, opened, framed, matched_turn, element, elements, if_numbered, items_then, iterating, turning, unit, while_turns, do_turns, hidden, so_far, adding, comprehended, names_around}
 use Rattle.pi_meaning.specs.OverNames.Forms.{indexed_by}
 use Rattle.pi_meaning.specs.OverNames.Goals.{started}
 use Rattle.pi_effects.specs.Indexing.{index_name}
@@ -63,17 +63,17 @@ items-below f g each d s (Some ts) = numbered (value_of Add (pos (length ts)) (p
     numbered (Ok n) = each ts
     numbered (Err fault) = below-refl _
 
-pub iterating-grows : (finish : Finish) (before inside kept : Names) (pattern : ExpTree) (collection : Value) (body : Goal) → Grows collection → Grows body → Grows (iterating finish before inside kept pattern collection body)
+pub iterating-grows : (finish : Finish) (before inside kept : Names) (pattern : ExpTree) (collection : Value) (body : Goal) → Grows collection → Grows body → Grows (iterating (names_around finish before inside kept) pattern collection body)
 unfolding iterating
 iterating-grows finish before inside kept pattern collection body a c l m b p =
     below-then _ _ _ _ (a l m b (carried before (with_names before p)))
     (λ x. items-below _ _ (λ ts. framed-grows finish inside kept (elements inside pattern body ts) (elements-grow inside pattern body c ts) l m b _) x.tree x.state (collection_items (bindings x.state) x.tree))
 
-pub turning-grows : (finish : Finish) (before inside kept : Names) (turns : Goal) → Grows turns → Grows (turning finish before inside kept turns)
+pub turning-grows : (finish : Finish) (before inside kept : Names) (turns : Goal) → Grows turns → Grows (turning (names_around finish before inside kept) turns)
 unfolding turning
 turning-grows finish before inside kept turns grows l m b p = framed-grows finish inside kept turns grows l m b (with_names before p)
 
-pub unit-grows : (finish : Finish) (before inside kept : Names) (o : Option ExpTree) (collection : Value) (test rest : Goal) → Grows collection → Grows test → Grows rest → Grows (unit finish before inside kept o collection test rest)
+pub unit-grows : (finish : Finish) (before inside kept : Names) (o : Option ExpTree) (collection : Value) (test rest : Goal) → Grows collection → Grows test → Grows rest → Grows (unit (names_around finish before inside kept) o collection test rest)
 unit-grows finish before inside kept (Some pattern) collection test rest a c d = iterating-grows finish before inside kept pattern collection rest a d
 unit-grows finish before inside kept None collection test rest a c d = choosing-grows test rest (λ l p. one p) c d (stays (λ p. one p))
 

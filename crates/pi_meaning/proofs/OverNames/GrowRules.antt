@@ -25,7 +25,7 @@ use Rattle.pi_meaning.specs.OverNames.Heads.{patterns_matched}
 use Rattle.pi_meaning.specs.Shared.Given.{LaterOnlyAdds}
 use Rattle.pi_meaning.specs.OverNames.Forms.{plain}
 use Rattle.pi_meaning.specs.OverNames.Goals.{goal_of}
-use Rattle.pi_meaning.specs.OverNames.Rules.{rules_named, functions_named, modes_named, guarded, places_in, names_before, function_names, body_or_agent, leaves_later, rule_or_later, rules_called, predicate_run, body_or_none, value_run, function_or_later, functions_called, function_run, calls_by, level_for}
+use Rattle.pi_meaning.specs.OverNames.Rules.{rules_named, functions_named, modes_named, guarded, places_in, names_before, function_names, body_or_agent, leaves_later, rule_or_later, rules_called, predicate_run, body_or_none, value_run, function_or_later, functions_called, function_run, calls_by, level_for, tried_rule, call_made}
 use Rattle.pi_meaning.specs.OverNames.Prelude.{prelude}
 use Rattle.pi_meaning.specs.OverNames.Run.{setting, program_level, answer_names, names_from, names_trace}
 use Rattle.pi_meaning.specs.OverNames.Laws.{NamesDoMore, NamesRunsAreOne, NamesRunsReach}
@@ -41,26 +41,26 @@ guard-grows set adds before None = stays _
 guard-grows set adds before (Some c) = strictly-grows (goal_of set.calls before c) (goal-grows set.calls adds before c)
 
 body-below : (set : RulesSetting) → LaterOnlyAdds set.calls.later → (call : Tree) (i : ℕ) (r : RuleTree) (es : List ExpTree) (l m : Level) → LevelBelow l m → (p : Place) →
-    Below (body_or_agent set call i r es l p) (body_or_agent set call i r es m p)
+    Below (body_or_agent set (tried_rule call i r) es l p) (body_or_agent set (tried_rule call i r) es m p)
 body-below set adds call i r [] l m b p = below-then _ _ _ _ (goal-grows set.calls adds (names_before r.head r.cond) r.body l m b p) (λ q. below-refl _)
 body-below set adds call i r (e ∷ es) l m b p = below-refl _
 
 rule-below : (set : RulesSetting) → LaterOnlyAdds set.calls.later → (call : Tree) (i : ℕ) (r : RuleTree) (l m : Level) → LevelBelow l m → (s : State) (t u : Trace State) → Below t u → (o : Option Environment) →
-    Below (rule_or_later set call i r l s t o) (rule_or_later set call i r m s u o)
+    Below (rule_or_later set (tried_rule call i r) l s t o) (rule_or_later set (tried_rule call i r) m s u o)
 rule-below set adds call i r l m b s t u more None = more
 rule-below set adds call i r l m b s t u more (Some e) =
     below-chosen _ _ _ _ t u (guard-grows set adds (behind [] (places r.head)) r.cond l m b (record { names = e; state = s }))
     (λ p. chosen-below (leaves_later r r.events) _ _ t u (body-below set adds call i r r.events l m b p) more) more
 
 rules-below : (set : RulesSetting) → LaterOnlyAdds set.calls.later → (call : Tree) (i : ℕ) (rs : List RuleTree) (l m : Level) → LevelBelow l m → (ts : Trees) (s : State) →
-    Below (rules_called set call i rs l ts s) (rules_called set call i rs m ts s)
+    Below (rules_called set call i rs (call_made l ts s)) (rules_called set call i rs (call_made m ts s))
 unfolding rules_called
 rules-below set adds call i [] l m b ts s = below-refl done
 rules-below set adds call i (r ∷ rs) l m b ts s =
     rule-below set adds call i r l m b s _ _ (rules-below set adds call (suc i) rs l m b ts s) (patterns_matched (bindings s) (head_arguments r.head) ts [])
 
 predicate-run-below : (set : RulesSetting) → LaterOnlyAdds set.calls.later → (program : ProgramTree) (l m : Level) → LevelBelow l m → (name : List ℕ) (ts : Trees) (s : State) (o : Option (List (List Mode))) →
-    Below (predicate_run set program l name ts s o) (predicate_run set program m name ts s o)
+    Below (predicate_run set program name (call_made l ts s) o) (predicate_run set program name (call_made m ts s) o)
 predicate-run-below set adds program l m b name ts s None = rules-below set adds (comp name ts) 0 (rules_named name (tree_count ts) program) l m b ts s
 predicate-run-below set adds program l m b name ts s (Some lists) = below-refl _
 

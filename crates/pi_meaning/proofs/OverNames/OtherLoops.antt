@@ -24,7 +24,7 @@ use Rattle.pi_meaning.specs.OverNames.Terms.{items_onto}
 use Rattle.pi_meaning.specs.OverNames.Heads.{pattern_matched}
 use Rattle.pi_meaning.specs.Shared.Given.{Setting}
 use Rattle.pi_meaning.specs.OverNames.Control.{Goal, Value, draining, strictly, nothing, in_front, applied_to, choosing}
-use Rattle.pi_meaning.specs.OverNames.Loops.{Finish, as_it_is, now, closed, framed, matched_turn, element, elements, if_numbered, items_then, iterating, turning, unit, while_turns, do_turns, hidden, so_far, adding, comprehended}
+use Rattle.pi_meaning.specs.OverNames.Loops.{Finish, as_it_is, now, closed, framed, matched_turn, element, elements, if_numbered, items_then, iterating, turning, unit, while_turns, do_turns, hidden, so_far, adding, comprehended, names_around}
 use Rattle.pi_meaning.specs.OverNames.Forms.{indexed_by}
 use Rattle.pi_meaning.specs.OverNames.Goals.{started}
 use Rattle.pi_meaning.specs.OverNames.OtherNames.{IsOther, AreOther, Agree, AgreeAt, agree_at}
@@ -83,7 +83,7 @@ items-steady x f g each d s (Some ts) = numbered (operation Add (pos (length ts)
     numbered (Err fault) = end_by _
 
 pub iterating-steady : (x : List ℕ) (finish : Finish) (before inside kept : Names) → AreOther x before → AreOther x kept → (pattern : ExpTree) (collection : Value) (body : Goal) → SteadyValue x collection → SteadyGoal x body →
-    SteadyGoal x (iterating finish before inside kept pattern collection body)
+    SteadyGoal x (iterating (names_around finish before inside kept) pattern collection body)
 unfolding iterating
 iterating-steady x finish before inside kept o other pattern collection body a c l p q r =
     by-then (AgreeValued x) (AgreeAt x) _ _ _ _ (a l _ _ (carried-agree x before _ _ (names-agree x before o p q r))) (after (with_names before p) (with_names before q) (names-agree x before o p q r))
@@ -94,12 +94,12 @@ iterating-steady x finish before inside kept o other pattern collection body a c
     after _ _ (agree_at e f b s) _ _ (agree_valued t g h d k) =
         items-steady x _ _ (λ ts. framed-steady x finish inside kept other (elements inside pattern body ts) (elements-steady x inside pattern body c ts) l _ _ (agree_at e f b k)) t k _
 
-pub turning-steady : (x : List ℕ) (finish : Finish) (before inside kept : Names) → AreOther x before → AreOther x kept → (turns : Goal) → SteadyGoal x turns → SteadyGoal x (turning finish before inside kept turns)
+pub turning-steady : (x : List ℕ) (finish : Finish) (before inside kept : Names) → AreOther x before → AreOther x kept → (turns : Goal) → SteadyGoal x turns → SteadyGoal x (turning (names_around finish before inside kept) turns)
 unfolding turning
 turning-steady x finish before inside kept o other turns steady l p q a = framed-steady x finish inside kept other turns steady l _ _ (names-agree x before o p q a)
 
 pub unit-steady : (x : List ℕ) (finish : Finish) (before inside kept : Names) → AreOther x before → AreOther x kept → (o : Option ExpTree) (collection : Value) (test rest : Goal) → SteadyValue x collection → SteadyGoal x test → SteadyGoal x rest →
-    SteadyGoal x (unit finish before inside kept o collection test rest)
+    SteadyGoal x (unit (names_around finish before inside kept) o collection test rest)
 unit-steady x finish before inside kept b other (Some pattern) collection test rest a c d = iterating-steady x finish before inside kept b other pattern collection rest a d
 unit-steady x finish before inside kept b other None collection test rest a c d = choosing-steady x test rest (λ l p. one p) c d (one-answer x)
 

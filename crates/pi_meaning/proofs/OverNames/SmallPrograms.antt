@@ -27,7 +27,7 @@ use Rattle.pi_meaning.specs.Shared.Names.{is_later_predicate}
 use Rattle.pi_meaning.specs.OverNames.Control.{strictly, draining}
 use Rattle.pi_meaning.specs.OverNames.Forms.{form_of}
 use Rattle.pi_meaning.specs.OverNames.Goals.{goal_of}
-use Rattle.pi_meaning.specs.OverNames.Rules.{rules_named, modes_named, names_before, guarded, body_or_agent, leaves_later, rule_or_later as rule_or, rules_called, predicate_run, calls_by, level_for}
+use Rattle.pi_meaning.specs.OverNames.Rules.{rules_named, modes_named, names_before, guarded, body_or_agent, leaves_later, rule_or_later as rule_or, rules_called, predicate_run, calls_by, level_for, tried_rule, call_made}
 use Rattle.pi_meaning.specs.OverNames.Prelude.{prelude}
 use Rattle.pi_meaning.specs.OverNames.Run.{setting, program_level, names_from}
 use Rattle.pi_meaning.specs.OverNames.Kinds.{are_some, means_prelude}
@@ -44,7 +44,7 @@ head-small e small = absurd small
 
 -- a rule without condition and events, where its head matched
 plain-rule : (set : RulesSetting) (call : Tree) (i : ℕ) (r : RuleTree) (l : Level) (p : Place) (later : Trace State) (names : Names) (c : Option ExpTree) (es : List ExpTree) → c ≡ None → es ≡ [] →
-    chosen (guarded set names c l p) (λ q. chosen_rule (leaves_later r es) (body_or_agent set call i r es l q) later) later
+    chosen (guarded set names c l p) (λ q. chosen_rule (leaves_later r es) (body_or_agent set (tried_rule call i r) es l q) later) later
     ≡ chosen_rule r.back (then (goal_of set.calls (names_before r.head r.cond) r.body l p) (λ q. one q.state)) later
 unfolding chosen
 plain-rule set call i r l p later names None [] a b = refl
@@ -52,7 +52,7 @@ plain-rule set call i r l p later names None (e ∷ es) a b = absurd cc
 plain-rule set call i r l p later names (Some c) es a b = absurd cc
 
 rule-same : (set : RulesSetting) (l : Level) (calls : Calling) (defined : Defined) → AllUntaken defined → SameCalls defined l calls → (call : Tree) (i : ℕ) (r : RuleTree) → IsSmallRule defined r → (s : State) (later : Trace State) (o : Option Environment) →
-    rule_or set call i r l s later o ≡ rule_or_later set.calls.view calls r s later o
+    rule_or set (tried_rule call i r) l s later o ≡ rule_or_later set.calls.view calls r s later o
 rule-same set l calls defined free is call i r small s later None = refl
 rule-same set l calls defined free is call i r small s later (Some e) =
     plain-rule set call i r l (record { names = e; state = s }) later (behind [] (places r.head)) r.cond r.events small.cond small.events
@@ -60,12 +60,12 @@ rule-same set l calls defined free is call i r small s later (Some e) =
     (body-same set.calls l calls defined free is (names_before r.head r.cond) r.body small.body (record { names = e; state = s }))
 
 rules-same : (set : RulesSetting) (l : Level) (calls : Calling) (defined : Defined) → AllUntaken defined → SameCalls defined l calls → (call : Tree) (i : ℕ) (rs : List RuleTree) → AllByRecursion (IsSmallRule defined) rs → (ts : Trees) (s : State) →
-    rules_called set call i rs l ts s ≡ rules_trace set.calls.view calls rs ts s
+    rules_called set call i rs (call_made l ts s) ≡ rules_trace set.calls.view calls rs ts s
 unfolding rules_called rules_trace
 rules-same set l calls defined free is call i [] small ts s = refl
 rules-same set l calls defined free is call i (r ∷ rs) small ts s =
-    ap (λ (o : Option Environment). rule_or set call i r l s (rules_called set call (suc i) rs l ts s) o) (head-same (bindings s) (head_arguments r.head) (head-small r.head small.0.head) ts [])
-    ∙ ap (λ (t : Trace State). rule_or set call i r l s t (head_matched (bindings s) (head_arguments r.head) ts [])) (rules-same set l calls defined free is call (suc i) rs small.1 ts s)
+    ap (λ (o : Option Environment). rule_or set (tried_rule call i r) l s (rules_called set call (suc i) rs (call_made l ts s)) o) (head-same (bindings s) (head_arguments r.head) (head-small r.head small.0.head) ts [])
+    ∙ ap (λ (t : Trace State). rule_or set (tried_rule call i r) l s t (head_matched (bindings s) (head_arguments r.head) ts [])) (rules-same set l calls defined free is call (suc i) rs small.1 ts s)
     ∙ rule-same set l calls defined free is call i r small.0 s (rules_trace set.calls.view calls rs ts s) (head_matched (bindings s) (head_arguments r.head) ts [])
 
 -- ---- programs
@@ -139,15 +139,15 @@ all-untaken program free name k known =
 
 run-same : (v : View) (later : LaterStages) (program : ProgramTree) → IsSmallProgram program → HeadsAreFree program → (l : Level) (calls : Calling) → SameCalls (heads program) l calls →
     (name : List ℕ) (ts : Trees) (s : State) → Defines (heads program) name (tree_count ts) →
-    predicate_run (setting v later program) (prelude ++ program) l name ts s (modes_named name (tree_count ts) (prelude ++ program))
+    predicate_run (setting v later program) (prelude ++ program) name (call_made l ts s) (modes_named name (tree_count ts) (prelude ++ program))
     ≡ rules_trace v calls (filter (is_rule_of name (tree_count ts)) (rules_of program)) ts s
 run-same v later program small free l calls is name ts s known =
     let set : RulesSetting = setting v later program in
     let k : ℕ = tree_count ts in
     let parts : AllByRecursion (IsSmallPart (heads program)) program = recursion_from_All (IsSmallPart (heads program)) program small.parts in
     let un : Untaken name k = untaken name k (free name k known) in
-    ap (λ (o : Option (List (List Mode))). predicate_run set (prelude ++ program) l name ts s o) (all-modes_none (heads program) name k program parts)
-    ∙ ap (λ (rs : List RuleTree). rules_called set (comp name ts) 0 rs l ts s) (own-rules name k program un.prelude)
+    ap (λ (o : Option (List (List Mode))). predicate_run set (prelude ++ program) name (call_made l ts s) o) (all-modes_none (heads program) name k program parts)
+    ∙ ap (λ (rs : List RuleTree). rules_called set (comp name ts) 0 rs (call_made l ts s)) (own-rules name k program un.prelude)
     ∙ rules-same set l calls (heads program) (all-untaken program free) is (comp name ts) 0 (filter (is_rule_of name k) (rules_of program))
     (filter-small (heads program) (is_rule_of name k) (rules_of program) (rules-small (heads program) program parts)) ts s
 

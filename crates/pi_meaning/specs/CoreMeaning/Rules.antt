@@ -33,16 +33,37 @@ abbrev pub chosen_rule : {X : Type 0} → Bool → Trace X → Trace X → Trace
 chosen_rule true t rest = alt t rest
 chosen_rule false t rest = t
 
-abbrev pub rule_before : {X : Type 0} → Builtins → Level → ClauseTree → Bool → (Point → Trace X) → State → Trace X → Option Places → Trace X
-rule_before b l c back does s rest None = rest
-rule_before b l c back does s rest (Some e) =
-    chosen (guarded b c.guard (record { level = l; slots = e; state = s })) (λ p. chosen_rule back (does p) rest) rest
+-- a rule, whether it is backtrackable, and what it does where it applies
+pub record RuleBy (X : Type 0) : Type 0 where
+  pub clause : ClauseTree
+  pub back : Bool
+  pub does : Point → Trace X
 
--- `back` says whether a rule is backtrackable, `does` what a rule that applies does, by its number; no rule, no answer
-unfoldable pub rules : {X : Type 0} → Builtins → Level → (ClauseTree → Bool) → (ℕ → ClauseTree → Point → Trace X) → ℕ → List ClauseTree → Trees → State → Trace X
-rules b l back does i [] ts s = done
-rules b l back does i (c ∷ cs) ts s =
-    rule_before b l c (back c) (does i c) s (rules b l back does (suc i) cs ts s) (matched_all_in (bindings s) c.head ts (replicate c.slots None))
+abbrev pub rule_by : {X : Type 0} → ClauseTree → Bool → (Point → Trace X) → RuleBy X
+rule_by c back does = record { clause = c; back = back; does = does }
+
+abbrev pub rule_before : {X : Type 0} → Builtins → Level → RuleBy X → State → Trace X → Option Places → Trace X
+rule_before b l r s rest None = rest
+rule_before b l r s rest (Some e) =
+    chosen (guarded b r.clause.guard (record { level = l; slots = e; state = s })) (λ p. chosen_rule r.back (r.does p) rest) rest
+
+-- by what built-ins and at what level rules are run; `back` says whether a rule is backtrackable, `does` what a rule that
+-- applies does, by its number
+pub record RulesBy (X : Type 0) : Type 0 where
+  pub builtins : Builtins
+  pub level : Level
+  pub back : ClauseTree → Bool
+  pub does : ℕ → ClauseTree → Point → Trace X
+
+abbrev pub rules_by : {X : Type 0} → Builtins → Level → (ClauseTree → Bool) → (ℕ → ClauseTree → Point → Trace X) → RulesBy X
+rules_by b l back does = record { builtins = b; level = l; back = back; does = does }
+
+-- no rule, no answer
+unfoldable pub rules : {X : Type 0} → RulesBy X → ℕ → List ClauseTree → Trees → State → Trace X
+rules r i [] ts s = done
+rules r i (c ∷ cs) ts s =
+    rule_before r.builtins r.level (rule_by c (r.back c) (r.does i c)) s (rules r (suc i) cs ts s)
+    (matched_all_in (bindings s) c.head ts (replicate c.slots None))
 
 -- A predicate's rule runs its body. An action rule has one answer instead, in which the call is a new agent.
 
@@ -82,7 +103,8 @@ body_or_agent b the_call i c (w ∷ ws) p = one (suspended the_call i (w ∷ ws)
 
 -- the clauses of a predicate are rules, or facts behind an `index`
 unfoldable pub pred_run : Builtins → Level → PredTree → Option (List (List Mode)) → Trees → State → Trace State
-pred_run b l pred None ts s = rules b l (λ c. backtracks c.back c.watches) (λ i c p. body_or_agent b (comp pred.name ts) i c c.watches p) 0 pred.clauses ts s
+pred_run b l pred None ts s =
+    rules (rules_by b l (λ c. backtracks c.back c.watches) (λ i c p. body_or_agent b (comp pred.name ts) i c c.watches p)) 0 pred.clauses ts s
 pred_run b l pred (Some lists) ts s = facts_called lists pred.clauses ts s
 
 -- A function's rule runs its body, and then evaluates its value; the first answer is the call's. Where there is none the
@@ -97,7 +119,7 @@ value_run b c p = then (strictly (meaning b c.body) p) (value_at c.value)
 
 unfoldable pub function_run : Builtins → Level → PredTree → Trees → State → Trace Applied
 function_run b l pred ts s =
-    chosen (rules b l (λ c. false) (λ i c p. value_run b c p) 0 pred.clauses ts s) (λ a. one a)
+    chosen (rules (rules_by b l (λ c. false) (λ i c p. value_run b c p)) 0 pred.clauses ts s) (λ a. one a)
     (raised_with (codes "unresolved_function_call") (comp pred.name ts) s)
 
 -- The one predicate, or the one function, of a name and a number of arguments.

@@ -16,7 +16,7 @@ use Rattle.pi_meaning.specs.Shared.Level.{Level, Applied, Point}
 use Rattle.pi_meaning.specs.CoreMeaning.Meaning.{Action, draining, with_slot, slot_value, copyable, with_list, meaning, meaning_of_all, meaning_of_any}
 use Rattle.pi_meaning.specs.Shared.Handling.{handling}
 use Rattle.pi_meaning.specs.CoreMeaning.Facts.{facts}
-use Rattle.pi_meaning.specs.CoreMeaning.Rules.{chosen_rule, rules, value_at, level_at}
+use Rattle.pi_meaning.specs.CoreMeaning.Rules.{chosen_rule, rules, value_at, level_at, rules_by}
 use Rattle.pi_meaning.specs.CoreMeaning.Run.{Solution, answered_with}
 use Rattle.pi_core.specs.declared.core_program.NameSlot.{NameSlot}
 use Rattle.pi_meaning.specs.Machine.Configuration.{Frame, more, return, give, Back, Called, Choice, rules_left, facts_left, branches_left, Strict, once_level, not_level, if_level, guard_level, value_level, list_level, number_level, Entry, choice, strict, catch_level, left, Now, going, telling, failed, raising, Config, after_body}
@@ -50,7 +50,7 @@ body_of given l call b c p = then (meaning given c.body p) (continued given l (a
 
 -- the rules that are left of a call
 unfoldable pub rules_trace : Builtins → Level → Called → List ClauseTree → Back → Trace Point
-rules_trace given l call cs b = rules given l (λ c. leaves_others call.function c) (λ i c p. body_of given l call b c p) 0 cs call.args b.state
+rules_trace given l call cs b = rules (rules_by given l (λ c. leaves_others call.function c) (λ i c p. body_of given l call b c p)) 0 cs call.args b.state
 
 -- the facts that are left of a call
 unfoldable pub facts_trace : Builtins → Level → Trees → List ClauseTree → Back → Trace Point

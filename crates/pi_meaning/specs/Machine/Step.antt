@@ -66,24 +66,37 @@ later_rules false called cs b es = es
 later_rules true called [] b es = es
 later_rules true called (c ∷ cs) b es = choice (rules_left called (c ∷ cs)) b ∷ es
 
+-- a rule that is tried: the call, the rule and those after it, what the call comes back to, and the stack
+pub record Trial : Type 0 where
+  pub called : Called
+  pub rule : ClauseTree
+  pub later : List ClauseTree
+  pub back : Back
+  pub stack : List Entry
+
+abbrev pub trial : Called → ClauseTree → List ClauseTree → Back → List Entry → Trial
+trial called c cs b es = record { called = called; rule = c; later = cs; back = b; stack = es }
+
 -- the body of a rule that applies, with these slots
-abbrev pub taken : Called → ClauseTree → List ClauseTree → Back → List Entry → Places → State → Config
-taken called c cs b es e s = config (run_goal c.body e s (after_body called.function c b.frames)) (later_rules (leaves_others called.function c) called cs b es)
+abbrev pub taken : Trial → Places → State → Config
+taken t e s =
+    config (run_goal t.rule.body e s (after_body t.called.function t.rule t.back.frames))
+    (later_rules (leaves_others t.called.function t.rule) t.called t.later t.back t.stack)
 
 -- the guard of a rule whose head matches; `true` needs no level
-abbrev pub guarding : GoalTree → Called → ClauseTree → List ClauseTree → Back → List Entry → Places → Config
-guarding truth called c cs b es e = taken called c cs b es e b.state
-guarding g called c cs b es e = inside g e b.state (strict (guard_level called c cs) b) es
+abbrev pub guarding : GoalTree → Trial → Places → Config
+guarding truth t e = taken t e t.back.state
+guarding g t e = inside g e t.back.state (strict (guard_level t.called t.rule t.later) t.back) t.stack
 
 -- the first rule whose head matches
-abbrev pub tried : Called → ClauseTree → List ClauseTree → Back → List Entry → Option Places → Config → Config
-tried called c cs b es None otherwise = otherwise
-tried called c cs b es (Some e) otherwise = guarding c.guard called c cs b es e
+abbrev pub tried : Trial → Option Places → Config → Config
+tried t None otherwise = otherwise
+tried t (Some e) otherwise = guarding t.rule.guard t e
 
 unfoldable pub try_rules : Called → List ClauseTree → Back → List Entry → Config
 try_rules called [] b es = config failed es
 try_rules called (c ∷ cs) b es =
-    tried called c cs b es (matched_all_in (bindings b.state) c.head called.args (replicate c.slots None)) (try_rules called cs b es)
+    tried (trial called c cs b es) (matched_all_in (bindings b.state) c.head called.args (replicate c.slots None)) (try_rules called cs b es)
 
 -- ---- facts
 
@@ -127,6 +140,23 @@ unresolved called s = let t : Tree = value (bindings s) called in ball_of t (com
 
 -- ---- goals
 
+-- what comes after a goal: the goals after it in its block, the frames, and the stack
+pub record Rest : Type 0 where
+  pub goals : GoalTrees
+  pub frames : List Frame
+  pub stack : List Entry
+
+abbrev pub with_rest : GoalTrees → List Frame → List Entry → Rest
+with_rest gs k es = record { goals = gs; frames = k; stack = es }
+
+-- a call by a name, with its arguments as they are evaluated
+pub record NameCall : Type 0 where
+  pub name : List ℕ
+  pub all : EvaluatedAll
+
+abbrev pub name_call : List ℕ → EvaluatedAll → NameCall
+name_call name all = record { name = name; all = all }
+
 -- a text that is written; what belongs to the body of a planner call may write none
 abbrev pub written_now : Bool → List ℕ → GoalTrees → Places → State → List Frame → Now
 written_now true text gs e s k = raising (atom (codes "output_in_plan"))
@@ -158,13 +188,13 @@ predicate_step (Some pred) all k es =
     call_step pred.quiet (try_clauses pred.index pred.clauses all.trees (back_to [] all.state (returning all.slots k)) es)
 
 -- what a later stage of the language gives isn't there
-abbrev pub later_step : Bool → List PredTree → List ℕ → EvaluatedAll → List Frame → List Entry → Outcome
-later_step true preds name all k es = silently (config (raising (unknown_ball name (tree_count all.trees))) es)
-later_step false preds name all k es = predicate_step (find_pred false name (tree_count all.trees) preds) all k es
+abbrev pub later_step : Bool → List PredTree → NameCall → List Frame → List Entry → Outcome
+later_step true preds c k es = silently (config (raising (unknown_ball c.name (tree_count c.all.trees))) es)
+later_step false preds c k es = predicate_step (find_pred false c.name (tree_count c.all.trees) preds) c.all k es
 
-abbrev pub effect_step : View → Option Effect → List PredTree → List ℕ → EvaluatedAll → GoalTrees → List Frame → List Entry → Outcome
-effect_step v (Some e) preds name all gs k es = silently (config (done_now v e gs all.slots k) es)
-effect_step v None preds name all gs k es = later_step (is_later_predicate name (tree_count all.trees)) preds name all (behind gs k) es
+abbrev pub effect_step : View → Option Effect → List PredTree → NameCall → Rest → Outcome
+effect_step v (Some e) preds c r = silently (config (done_now v e r.goals c.all.slots r.frames) r.stack)
+effect_step v None preds c r = later_step (is_later_predicate c.name (tree_count c.all.trees)) preds c (behind r.goals r.frames) r.stack
 
 -- ---- `call`
 
@@ -198,9 +228,9 @@ first_now preds no_trees s k = failed
 first_now preds (tree t ts) s k = term_now preds t s k (called_by (followed (bindings s) t) (each_tree ts))
 
 -- a goal by its name: `call`, or any other
-abbrev pub name_step : Bool → View → List PredTree → List ℕ → EvaluatedAll → GoalTrees → List Frame → List Entry → Outcome
-name_step true v preds name all gs k es = deeper (config (first_now preds all.trees all.state (returning all.slots (behind gs k))) es)
-name_step false v preds name all gs k es = effect_step v (built_in_predicate name all.trees all.state) preds name all gs k es
+abbrev pub name_step : Bool → View → List PredTree → NameCall → Rest → Outcome
+name_step true v preds c r = deeper (config (first_now preds c.all.trees c.all.state (returning c.all.slots (behind r.goals r.frames))) r.stack)
+name_step false v preds c r = effect_step v (built_in_predicate c.name c.all.trees c.all.state) preds c r
 
 -- a call of a function of the program, inside of a level
 abbrev pub function_step : Option PredTree → EvaluatedAll → ℕ → List Frame → List Entry → Outcome
@@ -215,37 +245,40 @@ resource_effect a_query s = Refuses (atom (codes "no_resource"))
 resource_effect (a_body n) s = Gives (int (pos n)) s
 
 -- what a later stage of the language gives has no answer
-abbrev pub later_value : Bool → List PredTree → List ℕ → EvaluatedAll → ℕ → List Frame → List Entry → Outcome
-later_value true preds name all into k es = silently (config failed es)
-later_value false preds name all into k es = function_step (find_pred true name (tree_count all.trees) preds) all into k es
+abbrev pub later_value : Bool → List PredTree → NameCall → ℕ → List Frame → List Entry → Outcome
+later_value true preds c into k es = silently (config failed es)
+later_value false preds c into k es = function_step (find_pred true c.name (tree_count c.all.trees) preds) c.all into k es
 
-abbrev pub other_value : Bool → View → List PredTree → List ℕ → EvaluatedAll → ℕ → GoalTrees → List Frame → List Entry → Outcome
-other_value true v preds name all into gs k es = silently (config (given_now (resource_effect v.within all.state) into gs all.slots k) es)
-other_value false v preds name all into gs k es = later_value (is_later_function name (tree_count all.trees)) preds name all into (behind gs k) es
+abbrev pub other_value : Bool → View → List PredTree → NameCall → ℕ → Rest → Outcome
+other_value true v preds c into r = silently (config (given_now (resource_effect v.within c.all.state) into r.goals c.all.slots r.frames) r.stack)
+other_value false v preds c into r = later_value (is_later_function c.name (tree_count c.all.trees)) preds c into (behind r.goals r.frames) r.stack
 
-abbrev pub value_step : View → Option FunctionEffect → List PredTree → List ℕ → EvaluatedAll → ℕ → GoalTrees → List Frame → List Entry → Outcome
-value_step v (Some e) preds name all into gs k es = silently (config (given_now e into gs all.slots k) es)
-value_step v None preds name all into gs k es = other_value (is_resource name (tree_count all.trees)) v preds name all into gs k es
+abbrev pub value_step : View → Option FunctionEffect → List PredTree → NameCall → ℕ → Rest → Outcome
+value_step v (Some e) preds c into r = silently (config (given_now e into r.goals c.all.slots r.frames) r.stack)
+value_step v None preds c into r = other_value (is_resource c.name (tree_count c.all.trees)) v preds c into r
 
--- a goal, the goals and frames behind it
-unfoldable pub goal_step : View → List PredTree → GoalTree → GoalTrees → Places → State → List Frame → List Entry → Outcome
-goal_step v preds truth gs e s k es = silently (config (going gs e s k) es)
-goal_step v preds fail gs e s k es = silently (config failed es)
-goal_step v preds tick gs e s k es = with_tick (config (going gs e s k) es)
-goal_step v preds (call name args) gs e s k es =
-    let all : EvaluatedAll = evaluated_all (trees_of args) e s in name_step (is_call name (tree_count all.trees)) v preds name all gs k es
-goal_step v preds (apply name args into) gs e s k es =
-    let all : EvaluatedAll = evaluated_all (trees_of args) e s in value_step v (built_in_function name all.trees all.state) preds name all into gs k es
-goal_step v preds (seq hs) gs e s k es = silently (config (going hs e s (behind gs k)) es)
-goal_step v preds (alternatives hs) gs e s k es = silently (branch hs (back_to e s (behind gs k)) es)
-goal_step v preds (if_else test g other) gs e s k es = silently (inside test e s (strict (if_level g other) (back_to e s (behind gs k))) es)
-goal_step v preds (not g) gs e s k es = silently (inside g e s (strict not_level (back_to e s (behind gs k))) es)
-goal_step v preds (once g) gs e s k es = silently (inside g e s (strict once_level (back_to e s (behind gs k))) es)
-goal_step v preds (collect g slot into) gs e s k es = silently (inside g e s (strict (list_level slot into []) (back_to e s (behind gs k))) es)
-goal_step v preds (count g into) gs e s k es = silently (inside g e s (strict (number_level into 0) (back_to e s (behind gs k))) es)
-goal_step v preds (catch g ball handler) gs e s k es =
+-- a goal, in these slots and from this state, and what comes after it
+unfoldable pub goal_step : View → List PredTree → GoalTree → Places → State → Rest → Outcome
+goal_step v preds truth e s r = silently (config (going r.goals e s r.frames) r.stack)
+goal_step v preds fail e s r = silently (config failed r.stack)
+goal_step v preds tick e s r = with_tick (config (going r.goals e s r.frames) r.stack)
+goal_step v preds (call name args) e s r =
+    let all : EvaluatedAll = evaluated_all (trees_of args) e s in name_step (is_call name (tree_count all.trees)) v preds (name_call name all) r
+goal_step v preds (apply name args into) e s r =
+    let all : EvaluatedAll = evaluated_all (trees_of args) e s in
+    value_step v (built_in_function name all.trees all.state) preds (name_call name all) into r
+goal_step v preds (seq hs) e s r = silently (config (going hs e s (behind r.goals r.frames)) r.stack)
+goal_step v preds (alternatives hs) e s r = silently (branch hs (back_to e s (behind r.goals r.frames)) r.stack)
+goal_step v preds (if_else test g other) e s r =
+    silently (inside test e s (strict (if_level g other) (back_to e s (behind r.goals r.frames))) r.stack)
+goal_step v preds (not g) e s r = silently (inside g e s (strict not_level (back_to e s (behind r.goals r.frames))) r.stack)
+goal_step v preds (once g) e s r = silently (inside g e s (strict once_level (back_to e s (behind r.goals r.frames))) r.stack)
+goal_step v preds (collect g slot into) e s r =
+    silently (inside g e s (strict (list_level slot into []) (back_to e s (behind r.goals r.frames))) r.stack)
+goal_step v preds (count g into) e s r = silently (inside g e s (strict (number_level into 0) (back_to e s (behind r.goals r.frames))) r.stack)
+goal_step v preds (catch g ball handler) e s r =
     let c : Evaluated = evaluated ball e s in
-    silently (inside g c.slots c.state (catch_level c.tree handler (back_to c.slots c.state (behind gs k))) es)
+    silently (inside g c.slots c.state (catch_level c.tree handler (back_to c.slots c.state (behind r.goals r.frames))) r.stack)
 
 -- ---- frames
 
@@ -278,20 +311,27 @@ newest_open zero (catch_level ball handler b ∷ es) = catch_open [] ball handle
 newest_open (suc n) (catch_level ball handler b ∷ es) = beneath (catch_level ball handler b) (newest_open n es)
 newest_open n (left ∷ es) = beneath left (newest_open (suc n) es)
 
+-- what a `find_all` has so far: the slot that is collected, the slot for the list, and the values
+pub record Collected : Type 0 where
+  pub slot : ℕ
+  pub into : ℕ
+  pub got : List Tree
+
 -- one more value is collected
-abbrev pub list_step : Tree → ℕ → ℕ → List Tree → List Entry → Back → List Entry → Config
-list_step t slot into got above b below =
+abbrev pub list_step : Tree → Collected → List Entry → Back → List Entry → Config
+list_step t c above b below =
     config (cond (nat_lt most_cells (cells t)) (raising (atom (codes "term_too_large"))) failed)
-    (above ++ strict (list_level slot into (cond (nat_lt most_cells (cells t)) got (got ++ t ∷ []))) b ∷ below)
+    (above ++ strict (list_level c.slot c.into (cond (nat_lt most_cells (cells t)) c.got (c.got ++ t ∷ []))) b ∷ below)
 
 -- an answer of a level
 unfoldable pub strict_step : Strict → Places → State → List Entry → Back → List Entry → Config
 strict_step once_level e s above b below = config (going no_goals e s b.frames) below
 strict_step not_level e s above b below = config failed below
 strict_step (if_level g other) e s above b below = config (run_goal g e s b.frames) below
-strict_step (guard_level called c cs) e s above b below = taken called c cs b below e s
+strict_step (guard_level called c cs) e s above b below = taken (trial called c cs b below) e s
 strict_step (value_level called into) e s above b below = config (going no_goals (slice_set b.slots into (held e 0)) s b.frames) below
-strict_step (list_level slot into got) e s above b below = list_step (slot_value slot e s) slot into got above b below
+strict_step (list_level slot into got) e s above b below =
+    list_step (slot_value slot e s) (record { slot = slot; into = into; got = got }) above b below
 strict_step (number_level into n) e s above b below = config failed (above ++ strict (number_level into (suc n)) b ∷ below)
 
 -- a `catch` that is left: it stays where there are choices in it
@@ -364,7 +404,7 @@ raise_step raised (left ∷ es) = silently (config (raising raised) (below_left 
 -- ---- all
 
 abbrev pub now_step : View → List PredTree → List NameSlot → Now → List Entry → Outcome
-now_step v preds names (going (goal g gs) e s k) es = goal_step v preds g gs e s k es
+now_step v preds names (going (goal g gs) e s k) es = goal_step v preds g e s (with_rest gs k es)
 now_step v preds names (going no_goals e s (f ∷ k)) es = silently (frame_step f e s k es)
 now_step v preds names (going no_goals e s []) es = answer_step names e s es (newest_open zero es)
 now_step v preds names (telling text gs e s k) es = writing text (config (going gs e s k) es)

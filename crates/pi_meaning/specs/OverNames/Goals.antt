@@ -14,7 +14,7 @@ use Rattle.pi_meaning.specs.OverNames.Environment.{known, Valued, name_valued}
 use Rattle.pi_meaning.specs.OverNames.Texts.{Names, places, places_all, places_behind, places_caught, places_of_branches, occurring, occurring_all, behind, iterated, unit_places, begins_with_iterator, shared_names, names_inside, variable_first, assigned, kept_names}
 use Rattle.pi_meaning.specs.OverNames.Terms.{items_onto, written_term}
 use Rattle.pi_meaning.specs.OverNames.Control.{Goal, Value, Values, no_goal, no_value, draining, strictly, constantly, nothing, in_front, made_of, made_onto, following, Arrow, branch_before, choosing, value_at}
-use Rattle.pi_meaning.specs.OverNames.Loops.{Finish, as_it_is, turning, unit, while_turns, do_turns, hidden, adding, in_order, comprehended}
+use Rattle.pi_meaning.specs.OverNames.Loops.{Finish, as_it_is, turning, unit, while_turns, do_turns, hidden, adding, in_order, comprehended, names_around}
 use Rattle.pi_meaning.specs.OverNames.Forms.{form_of, call_goal, atom_goal, Reading, plain, readings, first_reading, later_readings, operand_readings, call_value, range_value, indexed_by}
 
 -- a name is what it stands for, or a new variable
@@ -31,7 +31,7 @@ quoted_value e l p = term_value (written_term e p.names p.state)
 
 -- a loop from its iterators and tests on: where the first is an iterator the loop starts with it
 abbrev pub started : Bool → Finish → Names → Names → Names → (Finish → Names → Goal) → Goal
-started begins finish before inside kept turns = cond begins (turns finish before) (turning finish before inside kept (strictly (turns as_it_is inside)))
+started begins finish before inside kept turns = cond begins (turns finish before) (turning (names_around finish before inside kept) (strictly (turns as_it_is inside)))
 
 unfoldable mutual
   -- an expression
@@ -111,10 +111,10 @@ unfoldable mutual
       (λ finish inside. units_of set finish inside (assigned e) (occurring e) es (λ names. goal_of set names e))) l p
   goal_of set before (while_do c e) l p =
       let inside : Names = shared_names before (occurring c ++ occurring e) in
-      draining (turning as_it_is before inside (kept_names before no_exps (assigned e)) (while_turns inside (goal_of set inside c) (goal_of set (behind inside (places c)) e))) l p
+      draining (turning (names_around as_it_is before inside (kept_names before no_exps (assigned e))) (while_turns inside (goal_of set inside c) (goal_of set (behind inside (places c)) e))) l p
   goal_of set before (do_while e c) l p =
       let inside : Names = shared_names before (occurring e ++ occurring c) in
-      draining (turning as_it_is before inside (kept_names before no_exps (assigned e)) (do_turns inside (goal_of set inside e) (goal_of set (behind inside (places e)) c))) l p
+      draining (turning (names_around as_it_is before inside (kept_names before no_exps (assigned e))) (do_turns inside (goal_of set inside e) (goal_of set (behind inside (places e)) c))) l p
   goal_of set before (var name) l p = no_goal l p
   goal_of set before (int n) l p = no_goal l p
   goal_of set before (str text) l p = no_goal l p
@@ -154,7 +154,7 @@ unfoldable mutual
   units_of set finish before names used no_exps body l p = body before l p
   units_of set finish before names used (exp u us) body l p =
       let inside : Names = names_inside before (iterated u) (occurring_all us ++ used) in
-      unit finish before inside (kept_names before (exp u us) names) (iterated u) (collection_of set before u) (goal_of set before u)
+      unit (names_around finish before inside (kept_names before (exp u us) names)) (iterated u) (collection_of set before u) (goal_of set before u)
       (units_of set as_it_is (behind inside (unit_places (iterated u) u)) names used us body) l p
 
   -- what an iterator goes over; the names of its pattern are those of the turns, and stand behind it

@@ -80,22 +80,33 @@ abbrev pub items_then : (List Tree → Trace Place) → Tree → State → Optio
 items_then turns d s None = end (Raise (type_error (codes "collection") d s))
 items_then turns d s (Some ts) = if_numbered (value_of Add (pos (length ts)) (pos 1)) (turns ts)
 
+-- the names of a loop: their last values as they stand behind it, those that stand before it, those that its turns begin with, and those that it keeps
+pub record NamesAround : Type 0 where
+  pub finish : Finish
+  pub before : Names
+  pub inside : Names
+  pub kept : Names
+
+abbrev pub names_around : Finish → Names → Names → Names → NamesAround
+names_around finish before inside kept = record { finish = finish; before = before; inside = inside; kept = kept }
+
 -- What an iterator goes over is evaluated first, with names of its own: it has those that stand before the loop, and none that it meets is there behind it. The variables of the names that the loop keeps stand
 -- behind those that this makes.
-unfoldable pub iterating : Finish → Names → Names → Names → ExpTree → Value → Goal → Goal
-iterating finish before inside kept pattern collection body l p =
-    let start : Place = with_names before p in
-    then (collection l (carried before start)) (λ x. items_then (λ ts. framed finish inside kept (elements inside pattern body ts) l (record { names = start.names; state = x.state })) x.tree x.state
+unfoldable pub iterating : NamesAround → ExpTree → Value → Goal → Goal
+iterating n pattern collection body l p =
+    let start : Place = with_names n.before p in
+    then (collection l (carried n.before start))
+    (λ x. items_then (λ ts. framed n.finish n.inside n.kept (elements n.inside pattern body ts) l (record { names = start.names; state = x.state })) x.tree x.state
     (collection_items (bindings x.state) x.tree))
 
 -- a loop that begins with no iterator
-unfoldable pub turning : Finish → Names → Names → Names → Goal → Goal
-turning finish before inside kept turns l p = framed finish inside kept turns l (with_names before p)
+unfoldable pub turning : NamesAround → Goal → Goal
+turning n turns l p = framed n.finish n.inside n.kept turns l (with_names n.before p)
 
 -- an iterator or a test, and what stands behind it; where a test fails the turn is passed over
-abbrev pub unit : Finish → Names → Names → Names → Option ExpTree → Value → Goal → Goal → Goal
-unit finish before inside kept (Some pattern) collection test rest = iterating finish before inside kept pattern collection rest
-unit finish before inside kept None collection test rest = choosing test rest (λ l p. one p)
+abbrev pub unit : NamesAround → Option ExpTree → Value → Goal → Goal → Goal
+unit n (Some pattern) collection test rest = iterating n pattern collection rest
+unit n None collection test rest = choosing test rest (λ l p. one p)
 
 -- A turn of `while` begins with its test; its Tick, which takes one from the depth, stands between test and body.
 unfoldable pub while_turns : Names → Goal → Goal → Goal

@@ -98,10 +98,19 @@ places_in (Some e) = places e
 abbrev pub names_before : ExpTree → Option ExpTree → Names
 names_before head c = behind (behind [] (places head)) (places_in c)
 
+-- a rule that is tried: for what call, its number, and the rule
+pub record TriedRule : Type 0 where
+  pub call : Tree
+  pub number : ℕ
+  pub rule : RuleTree
+
+abbrev pub tried_rule : Tree → ℕ → RuleTree → TriedRule
+tried_rule call i r = record { call = call; number = i; rule = r }
+
 -- a rule runs its body; an action rule has one answer instead, in which the call is a new agent
-abbrev pub body_or_agent : RulesSetting → Tree → ℕ → RuleTree → List ExpTree → Level → Place → Trace State
-body_or_agent set call i r [] l p = then (goal_of set.calls (names_before r.head r.cond) r.body l p) (λ q. one q.state)
-body_or_agent set call i r (e ∷ es) l p = set.agent call i (e ∷ es) p
+abbrev pub body_or_agent : RulesSetting → TriedRule → List ExpTree → Level → Place → Trace State
+body_or_agent set t [] l p = then (goal_of set.calls (names_before t.rule.head t.rule.cond) t.rule.body l p) (λ q. one q.state)
+body_or_agent set t (e ∷ es) l p = set.agent t.call t.number (e ∷ es) p
 
 -- an action rule is committed
 abbrev pub leaves_later : RuleTree → List ExpTree → Bool
@@ -110,17 +119,27 @@ leaves_later r (e ∷ es) = false
 
 -- A rule applies where its head matches, from an empty environment, and its condition has an answer. A committed rule ends the choice; of a backtrackable one the later
 -- rules are alternatives.
-abbrev pub rule_or_later : RulesSetting → Tree → ℕ → RuleTree → Level → State → Trace State → Option Environment → Trace State
-rule_or_later set call i r l s later None = later
-rule_or_later set call i r l s later (Some e) =
-    chosen (guarded set (behind [] (places r.head)) r.cond l (record { names = e; state = s }))
-    (λ p. chosen_rule (leaves_later r r.events) (body_or_agent set call i r r.events l p) later) later
+abbrev pub rule_or_later : RulesSetting → TriedRule → Level → State → Trace State → Option Environment → Trace State
+rule_or_later set t l s later None = later
+rule_or_later set t l s later (Some e) =
+    chosen (guarded set (behind [] (places t.rule.head)) t.rule.cond l (record { names = e; state = s }))
+    (λ p. chosen_rule (leaves_later t.rule t.rule.events) (body_or_agent set t t.rule.events l p) later) later
+
+-- a call that is made: the level of its clauses, its arguments, and the state
+pub record CallMade : Type 0 where
+  pub level : Level
+  pub args : Trees
+  pub state : State
+
+abbrev pub call_made : Level → Trees → State → CallMade
+call_made l ts s = record { level = l; args = ts; state = s }
 
 -- rules in order, each with its number; no rule, no answer
-unfoldable pub rules_called : RulesSetting → Tree → ℕ → List RuleTree → Level → Trees → State → Trace State
-rules_called set call i [] l ts s = done
-rules_called set call i (r ∷ rs) l ts s =
-    rule_or_later set call i r l s (rules_called set call (suc i) rs l ts s) (patterns_matched (bindings s) (head_arguments r.head) ts [])
+unfoldable pub rules_called : RulesSetting → Tree → ℕ → List RuleTree → CallMade → Trace State
+rules_called set call i [] c = done
+rules_called set call i (r ∷ rs) c =
+    rule_or_later set (tried_rule call i r) c.level c.state (rules_called set call (suc i) rs c)
+    (patterns_matched (bindings c.state) (head_arguments r.head) c.args [])
 
 -- ---- facts
 
@@ -134,10 +153,11 @@ facts_called (head ∷ heads) ts s =
     alt (settled_from s (option_and_then (unified_with ts) (written_terms (head_arguments head) [] s))) (facts_called heads ts s)
 
 -- a call fails where no mode list fits
-abbrev pub predicate_run : RulesSetting → ProgramTree → Level → List ℕ → Trees → State → Option (List (List Mode)) → Trace State
-predicate_run set program l name ts s None = rules_called set (comp name ts) 0 (rules_named name (tree_count ts) program) l ts s
-predicate_run set program l name ts s (Some lists) =
-    cond (list_any (λ modes. fits_modes (bindings s) modes ts) lists) (facts_called (facts_named name (tree_count ts) program) ts s) done
+abbrev pub predicate_run : RulesSetting → ProgramTree → List ℕ → CallMade → Option (List (List Mode)) → Trace State
+predicate_run set program name c None = rules_called set (comp name c.args) 0 (rules_named name (tree_count c.args) program) c
+predicate_run set program name c (Some lists) =
+    cond (list_any (λ modes. fits_modes (bindings c.state) modes c.args) lists)
+    (facts_called (facts_named name (tree_count c.args) program) c.args c.state) done
 
 -- ---- functions
 
@@ -184,7 +204,7 @@ drained_by set program below s = drained s
 -- a call takes one from the depth, by a Tick
 unfoldable pub calls_by : RulesSetting → ProgramTree → Option Level → Calls
 calls_by set program below = record {
-  called = λ name ts s. ticked below (λ l. predicate_run set program l name ts s (modes_named name (tree_count ts) program));
+  called = λ name ts s. ticked below (λ l. predicate_run set program name (call_made l ts s) (modes_named name (tree_count ts) program));
   applied = λ name ts s. ticked below (λ l. function_run set program l name ts s);
   drained = λ s. drained_by set program below s;
 }

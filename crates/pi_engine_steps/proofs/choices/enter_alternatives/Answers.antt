@@ -3,7 +3,7 @@ use Rattle.pi_engine_arenas.specs.declared.run.Now.{Now}
 use Rattle.pi_engine_arenas.specs.declared.arenas.Kind.{Kind}
 use Rattle.pi_engine_arenas.specs.Arenas.{view_of, pushed}
 use Rattle.pi_engine_stands.specs.Stands.{World, world}
-use Rattle.pi_meaning.specs.Machine.Step.{goal_step}
+use Rattle.pi_meaning.specs.Machine.Step.{goal_step, with_rest}
 use Rattle.pi_engine_stands.specs.Makes.{StandsAfter}
 use Rattle.pi_engine_stands.proofs.FramesStand.{framed, arenas-framed}
 use Rattle.pi_engine_stands.proofs.BranchesStand.{no-branches, one-branch, some-branches, branch-found, behind-found}
@@ -27,7 +27,7 @@ returns g c = λ node l is_code view goal gs e k es at stands.
     let framed_is : framed a fs ≡ b = arenas-framed a b c.frame_behind.ensures.blocks c.frame_behind.ensures.entries c.frame_behind.ensures.level c.frame_behind.ensures.collected in
     let before : World _ = world l (seen run.store) order a in
     let now : Now = Now.Going (record { place = p.place + 1; count = 1; base = p.base; frame = n }) in
-    let next = goal_step view l.preds goal gs e (seen run.store).now.state k es in
+    let next = goal_step view l.preds goal e (seen run.store).now.state (with_rest gs k es) in
     let first : c.child-first.result ≡ p.place + 1 =
     branch-found before p c.args.step c.args.count c.child-first.result c.args.code.now goal gs e k es node (omega (arith, c.if-count-eq0.false)) is_code at stands c.child-first.ensures in
     subst (λ r. StandsAfter (world l (seen c.if-count-gt1.run.store) order (view_of c.if-count-gt1.run.arenas)) r next)

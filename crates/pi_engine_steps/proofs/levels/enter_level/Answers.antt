@@ -4,7 +4,7 @@ use Rattle.pi_engine_arenas.specs.declared.frames.Point.{Point}
 use Rattle.pi_engine_arenas.specs.Arenas.{view_of, opened, pushed}
 use Rattle.pi_engine_stands.specs.Stands.{world, Stands}
 use Rattle.pi_engine_stands.specs.Makes.{StandsAfter}
-use Rattle.pi_meaning.specs.Machine.Step.{goal_step, inside, back_to}
+use Rattle.pi_meaning.specs.Machine.Step.{goal_step, inside, back_to, with_rest}
 use Rattle.pi_engine_stands.proofs.FramesStand.{framed, arenas-framed}
 use Rattle.pi_constraints.specs.Evaluation.{evaluated}
 use Rattle.pi_core.specs.GoalTree.{catch}
@@ -33,8 +33,8 @@ returns-clause-levels g c = λ level l is_code view goal gs e k es at stands.
     ∙ arenas-opened (view_of c.push_entry.new.run.arenas) (view_of c.open.new.self) c.open.ensures.frames c.open.ensures.blocks c.open.ensures.entries c.open.ensures.level c.open.ensures.collected in
     let point : Now.Going q ≡ c.one_goal.result =
     first-point (world l v g.S.StateStore.order a) p c.args.step c.args.kind goal gs e k es c.args.code.now c.child.result c.one_goal.result is_code at stands level c.child.ensures c.one_goal.ensures in
-    subst (λ r. StandsAfter (world l u g.S.StateStore.order (view_of c.open.new.self)) r (goal_step view l.preds goal gs e v.now.state k es)) point
-    (subst (λ r. StandsAfter (world l u g.S.StateStore.order r) (Now.Going q) (goal_step view l.preds goal gs e v.now.state k es)) opened_is
+    subst (λ r. StandsAfter (world l u g.S.StateStore.order (view_of c.open.new.self)) r (goal_step view l.preds goal e v.now.state (with_rest gs k es))) point
+    (subst (λ r. StandsAfter (world l u g.S.StateStore.order r) (Now.Going q) (goal_step view l.preds goal e v.now.state (with_rest gs k es))) opened_is
     (level-step (world l v g.S.StateStore.order a) u push.mark p c.args.step fs n c.args.step.node c.args.kind view goal gs e k es (at, c.in_ok-frame.ensures.ok) push.marks refl level stands))
 
 pub returns-clause-catches : goal.returns-clause-catches

@@ -6,7 +6,7 @@ use Rattle.pi_constraints.specs.Evaluation.{evaluated_all}
 use Rattle.pi_core.specs.CoreTree.{pred_tree}
 use Rattle.pi_engine_facts.specs.Called.{NamesAreDistinct}
 use Rattle.pi_engine_arenas.specs.declared.run.Now.{Now}
-use Rattle.pi_meaning.specs.Machine.Step.{unknown_by, goal_step}
+use Rattle.pi_meaning.specs.Machine.Step.{unknown_by, goal_step, with_rest}
 use Rattle.pi_engine_stands.specs.Makes.{StandsAfter}
 use Rattle.pi_constraints.specs.declared.store.Ref.{Ref}
 use Rattle.pi_engine_code.specs.declared.code.Node.{Node}
@@ -148,9 +148,9 @@ returns g c = λ node l is_code view goal gs e k es at stands.
     ] in
     let pushed : after.slots ≡ run.arenas.blocks.slots ++ map (λ r. Some r) parts =
     c.in_ok-push_terms.ensures.ok ∙ ap (λ (qs : List Ref). run.arenas.blocks.slots ++ map (λ r. Some r) qs) (c.deref-2.ensures.value ∙ same_parts) in
-    let stands_there : StandsAfter (world l u order (with_blocks (framed b fs) after)) (Now.Going (named_point c.in-Some-goal_named.place (length run.arenas.blocks.slots) c.in_ok-frame.frame)) (goal_step view l.preds goal gs e v.now.state k es) =
+    let stands_there : StandsAfter (world l u order (with_blocks (framed b fs) after)) (Now.Going (named_point c.in-Some-goal_named.place (length run.arenas.blocks.slots) c.in_ok-frame.frame)) (goal_step view l.preds goal e v.now.state (with_rest gs k es)) =
     found-runs w u b fs run.arenas.blocks after p s operands arity rs parts c.in_ok-name.field-0 n c.in-Some-goal_named.place c.in_ok-frame.frame view goal gs e k es node at stands evaluates some calls there c.in_ok-frame.ensures.ok gives pushed c.push_terms.ensures.keeps
     c.push_terms.ensures.kept in
-    subst (λ m. StandsAfter (world l (seen run.store) order (with_blocks (view_of run.arenas) after)) (Now.Going (named_point c.in-Some-goal_named.place m c.in_ok-frame.frame)) (goal_step view l.preds goal gs e v.now.state k es)) (sym c.count-base.ensures)
-    (subst (λ r. StandsAfter (world l (seen run.store) order r) (Now.Going (named_point c.in-Some-goal_named.place (length run.arenas.blocks.slots) c.in_ok-frame.frame)) (goal_step view l.preds goal gs e v.now.state k es)) same_arenas
-    (subst (λ r. StandsAfter (world l r order (with_blocks (framed b fs) after)) (Now.Going (named_point c.in-Some-goal_named.place (length run.arenas.blocks.slots) c.in_ok-frame.frame)) (goal_step view l.preds goal gs e v.now.state k es)) (sym same_store) stands_there))
+    subst (λ m. StandsAfter (world l (seen run.store) order (with_blocks (view_of run.arenas) after)) (Now.Going (named_point c.in-Some-goal_named.place m c.in_ok-frame.frame)) (goal_step view l.preds goal e v.now.state (with_rest gs k es))) (sym c.count-base.ensures)
+    (subst (λ r. StandsAfter (world l (seen run.store) order r) (Now.Going (named_point c.in-Some-goal_named.place (length run.arenas.blocks.slots) c.in_ok-frame.frame)) (goal_step view l.preds goal e v.now.state (with_rest gs k es))) same_arenas
+    (subst (λ r. StandsAfter (world l r order (with_blocks (framed b fs) after)) (Now.Going (named_point c.in-Some-goal_named.place (length run.arenas.blocks.slots) c.in_ok-frame.frame)) (goal_step view l.preds goal e v.now.state (with_rest gs k es))) (sym same_store) stands_there))
