@@ -6,3 +6,7 @@ pub mod ByName
 pub mod Goals
 pub mod Rules
 pub mod Queries
+pub mod LanguageLaws
+pub mod Label
+pub mod Drain
+pub mod StageLaws
