@@ -1,12 +1,13 @@
 -- The laws of the paths of labelling and draining.
-use Rattle.std.specs.Prelude.{◌≡◌, ℕ, zero, suc, List, [], ◌∷◌, map, Option, Some, None, option_map, ℤ, codes, refl}
-use Rattle.std.proofs.Common.{sym, ◌∙◌, ap}
+use Rattle.std.specs.Prelude.{◌≡◌, ℕ, zero, suc, List, [], ◌∷◌, map, Option, Some, None, option_map, ℤ, ◌+◌, codes, refl}
+use Rattle.std.proofs.Common.{sym, ◌∙◌, ap, subst, arith}
 use Rattle.pi_terms.specs.Tree.{Tree}
 use Rattle.pi_constraints.specs.State.{State, Agent, with_waiting, with_ended}
 use Rattle.pi_constraints.specs.declared.constraint.Item.{Item}
 use Rattle.pi_constraints.specs.declared.event.Activation.{Activation}
-use Rattle.pi_meaning.specs.Traces.Trace.{Trace, end, note, Tick, Raise, Deep, Done, done, one, alt, then}
+use Rattle.pi_meaning.specs.Traces.Trace.{Trace, end, note, ans, Tick, Raise, Deep, Done, done, one, alt, then}
 use Rattle.pi_meaning.specs.Traces.Control.{chosen}
+use Rattle.pi_meaning.proofs.Traces.AnswerLemmas.{EachAnswer}
 use Rattle.pi_effects.specs.Exception.{type_error}
 use Rattle.pi_settling.specs.Options.{Options, Objective}
 use Rattle.pi_settling.specs.Confined.{confined}
@@ -20,7 +21,7 @@ use Rattle.pi_settling.specs.Drain.{living}
 use Rattle.pi_settling.specs.Reading.{Solving}
 use Rattle.pi_settling.specs.Rounds.{begins, betters, worth, round, weighed, bettered, sought}
 use Rattle.pi_resume_spec.specs.Ways.{plain, choice_from}
-use Rattle.pi_resume_spec.specs.Resumed.{Search, simple, sequence, ways_of, alternatives, ticked, chosen_search}
+use Rattle.pi_resume_spec.specs.Resumed.{Search, simple, sequence, ways_of, alternatives, ticked, chosen_search, At, at_first, past_note, past_answer}
 use Rattle.pi_resume_spec.specs.Searches.{without_paths, only, too_deep}
 use Rattle.pi_resume_spec.specs.Label as label
 use Rattle.pi_resume_spec.specs.Label.{tried, one_tried, tries, labelled, labelled_at}
@@ -172,26 +173,38 @@ drained-same below s (a ∷ rest) =
 pub draining-adds-nothing : {X : Type 0} → DrainingAddsNothing X
 draining-adds-nothing below s = drained-same below s s.waiting
 
-each-any : {A : Type 0} (t : Trace A) → Rattle.pi_meaning.proofs.Traces.AnswerLemmas.EachAnswer (λ x. Unit {0}) t
-unfolding Rattle.pi_meaning.proofs.Traces.AnswerLemmas.EachAnswer
+each-any : {A : Type 0} (t : Trace A) → EachAnswer (λ x. Unit {0}) t
+unfolding EachAnswer
 each-any (end e) = tt
 each-any (note n t) = each-any t
-each-any (Rattle.pi_meaning.specs.Traces.Trace.ans x t) = (tt, each-any t)
+each-any (ans x t) = (tt, each-any t)
 
-decided-guided : {X : Type 0} (applies : ℕ → Trace X) (i before : ℕ) (own : X → Search State) (other : Search State) → ((x : X) → IsGuided (own x)) → IsGuided other → Guided Any (decided applies i before own other)
+-- what holds of each answer, one by one
+each-from : {A : Type 0} (P : A → Type 0) (t : Trace A) → ((x : A) (rest : Trace A) → At t x rest → P x) → EachAnswer P t
+unfolding EachAnswer
+each-from P (end e) all = tt
+each-from P (note n t) all = each-from P t (λ x rest a. all x rest (past_note n a))
+each-from P (ans y t) all = (all y t (at_first y t), each-from P t (λ x rest a. all x rest (past_answer y a)))
+
+decided-guided : {X : Type 0} (applies : ℕ → Trace X) (i before n : ℕ) (own : X → Search State) (other : Search State) → n ≡ i + before → EachAnswer (λ x. IsGuided (own x)) (applies n) → IsGuided other →
+    Guided Any (decided applies i before own other)
 unfolding decided
-decided-guided applies i zero own other a b = guided-chosen (λ x. Unit {0}) Any (applies i) own other (each-any (applies i)) (λ x u. any-guided (own x) (a x)) (any-guided other b)
-decided-guided applies i (suc before) own other a b =
-    guided-chosen (λ x. Unit {0}) Any (applies i) (λ x. other) (decided applies (suc i) before own other) (each-any (applies i)) (λ x u. any-guided other b) (decided-guided applies (suc i) before own other a b)
+decided-guided applies i zero n own other is a b =
+    let here : n ≡ i = omega (arith, is) in
+    guided-chosen (λ x. IsGuided (own x)) Any (applies i) own other (subst (λ (m : ℕ). EachAnswer (λ x. IsGuided (own x)) (applies m)) here a) (λ x g. any-guided (own x) g) (any-guided other b)
+decided-guided applies i (suc before) n own other is a b =
+    guided-chosen (λ x. Unit {0}) Any (applies i) (λ x. other) (decided applies (suc i) before own other) (each-any (applies i)) (λ x u. any-guided other b)
+    (decided-guided applies (suc i) before n own other (omega (arith, is)) a b)
 
 woken-guided : {X : Type 0} (l : drain.Lower X) → IsGuidedLower l → (s : State) (a : Activation) (o : Option Agent) (later : Search State) → Guided Any later → Guided Any (woken (Some l) s a o later)
 unfolding fired
 woken-guided l h s a None later g = g
 woken-guided l h s a (Some agent) later g =
+    let own = l.rules.body agent.rule agent.call (event_value agent a) in
     guided-ticked Any (sequence (fired l.rules s a agent) l.drains)
     (guided-sequence Any Any (fired l.rules s a agent) l.drains
-    (decided-guided (λ i. l.rules.applies i agent.call s) 0 agent.rule (l.rules.body agent.rule agent.call (event_value agent a)) (l.rules.anew agent.call (with_ended s a.agent))
-    (h.body agent.rule agent.call (event_value agent a)) (h.anew agent.call (with_ended s a.agent)))
+    (decided-guided (λ i. l.rules.applies i agent.call s) 0 agent.rule agent.rule own (l.rules.anew agent.call (with_ended s a.agent)) (omega arith)
+    (each-from (λ x. IsGuided (own x)) (l.rules.applies agent.rule agent.call s) (h.body agent.rule agent.call (event_value agent a) s)) (h.anew agent.call (with_ended s a.agent)))
     (λ x u. any-guided (l.drains x) (h.drains x)))
 
 drained-guided : {X : Type 0} (l : drain.Lower X) → IsGuidedLower l → (s : State) (as_ : List Activation) → Guided Any (drained_from (Some l) s as_)

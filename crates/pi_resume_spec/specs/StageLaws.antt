@@ -10,7 +10,8 @@ use Rattle.pi_settling.specs.Label.{Settling}
 use Rattle.pi_settling.specs.Drain as plain_drain
 use Rattle.pi_settling.specs.Reading.{Solving}
 use Rattle.pi_settling.specs.Rounds as plain_rounds
-use Rattle.pi_resume_spec.specs.Resumed.{Search}
+use Rattle.pi_meaning.specs.Traces.Trace.{Trace}
+use Rattle.pi_resume_spec.specs.Resumed.{Search, At}
 use Rattle.pi_resume_spec.specs.Searches.{without_paths}
 use Rattle.pi_resume_spec.specs.Label.{labelling, solved_for}
 use Rattle.pi_resume_spec.specs.Drain.{RuleRuns, Lower, plain_lower, drained}
@@ -46,9 +47,9 @@ SolvingIsGuided = (p : Solving) (drains : ℕ → State → Search State) → Se
 abbrev pub DrainingAddsNothing : Type 0 → Type 0
 DrainingAddsNothing X = (below : Option (Lower X)) (s : State) → without_paths (drained below s) ≡ plain_drain.drained (option_map plain_lower below) s
 
--- what a lower depth runs is guided
+-- what a lower depth runs is guided: a rule's body from each place to which its condition leads, a call that is made anew, and draining
 pub record IsGuidedLower {X : Type 0} (l : Lower X) : Type 0 where
-  pub body : (i : ℕ) (t : Tree) (v : Option SlotValue) (x : X) → IsGuided (l.rules.body i t v x)
+  pub body : (i : ℕ) (t : Tree) (v : Option SlotValue) (s : State) (x : X) (rest : Trace X) → At (l.rules.applies i t s) x rest → IsGuided (l.rules.body i t v x)
   pub anew : (t : Tree) (s : State) → IsGuided (l.rules.anew t s)
   pub drains : (s : State) → IsGuided (l.drains s)
 
