@@ -12,3 +12,4 @@ pub mod GuidedGoals
 pub mod GuidedNames
 pub mod LanguageLemmas
 pub mod StageLemmas
+pub mod LanguageExamples
