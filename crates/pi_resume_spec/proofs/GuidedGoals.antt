@@ -1,7 +1,7 @@
 -- Goals of the core language, calls of a program and queries are guided, where what later stages give is.
-use Rattle.std.specs.Prelude.{◌≡◌, ℕ, zero, suc, ◌+◌, Bool, true, false, cond, List, [], ◌∷◌, ◌++◌, length, map, replicate, Option, Some, None, option_map, option_and_then, pos, nat_lt, codes, refl}
+use Rattle.std.specs.Prelude.{ℕ, zero, suc, ◌+◌, Bool, true, false, cond, List, [], ◌∷◌, ◌++◌, length, map, replicate, Option, Some, None, option_map, option_and_then, pos, nat_lt, codes}
 use Rattle.std.specs.List.{list_any}
-use Rattle.std.proofs.Common.{arith, sym, ◌∙◌, ap, subst}
+use Rattle.std.proofs.Common.{sym, subst}
 use Rattle.pi_terms.specs.Tree.{Tree, int, comp, Trees, trees_of, tree_count, cells, most_cells}
 use Rattle.pi_terms.specs.Places.{Places}
 use Rattle.pi_constraints.specs.State.{State, bindings}
@@ -17,23 +17,23 @@ use Rattle.pi_meaning.specs.Traces.Control.{negated, collected, counted}
 use Rattle.pi_meaning.specs.Shared.Settle.{settled, settled_from}
 use Rattle.pi_meaning.specs.Shared.Drain.{drained}
 use Rattle.pi_meaning.specs.Shared.Raise.{raised_with}
-use Rattle.pi_meaning.specs.Shared.Level.{Level, Applied, calls_at, or_applied, ticked as ticked_plain, unticked as unticked_plain}
+use Rattle.pi_meaning.specs.Shared.Level.{Level, Applied, or_applied}
 use Rattle.pi_meaning.specs.CoreMeaning.Builtins.{function_by}
 use Rattle.pi_meaning.specs.CoreMeaning.Meaning.{slot_value, copyable}
 use Rattle.pi_meaning.specs.CoreMeaning.Facts.{fact_terms, unified_with, fits_modes}
 use Rattle.pi_meaning.specs.CoreMeaning.Rules as core
 use Rattle.pi_meaning.specs.CoreMeaning.Rules.{rules_by, rules, value_run, function_run, application_run}
 use Rattle.pi_meaning.specs.CoreMeaning.Run.{Solution, told}
-use Rattle.pi_meaning.proofs.Traces.AnswerLemmas.{EachAnswer, each-map, each-one, each-first, each-negated, each-collected, each-counted, each-then}
-use Rattle.pi_resume_spec.specs.Resumed.{Search, simple, sequence, alternatives, caught_search, chosen_search, RuleSearch, rules_search}
-use Rattle.pi_resume_spec.specs.Searches.{Searches, SearchLevel, bottom, above, level_with, searches_at, below, plain_level, Spot, Tries, without_paths, only, ticked_at, unticked_at, in_state, draining, strictly}
+use Rattle.pi_meaning.proofs.Traces.AnswerLemmas.{EachAnswer, each-one, each-first, each-negated, each-collected, each-counted, each-then}
+use Rattle.pi_resume_spec.specs.Resumed.{Search, simple, alternatives, chosen_search, RuleSearch}
+use Rattle.pi_resume_spec.specs.Searches.{Searches, SearchLevel, bottom, above, level_with, searches_at, below, plain_level, Spot, Tries, only, ticked_at, in_state, draining, strictly}
 use Rattle.pi_resume_spec.specs.ByName.{Offers, or_searched, handled_in, handling}
 use Rattle.pi_resume_spec.specs.Goals.{with_slot, after_arguments, after_term, succeeding, failing, ticking, predicate_by, calling, applying, with_list, strict, collecting, counting, catching, search, search_all, search_any}
-use Rattle.pi_resume_spec.specs.Rules.{guarded, applies_from, rule_searches, quiet_search, by_rules, body_search, body_or_agent, fact_search, facts_search, pred_search, entered, call_search, searches_of, quiet_level, search_level}
+use Rattle.pi_resume_spec.specs.Rules.{guarded, applies_from, rule_searches, quiet_search, by_rules, body_or_agent, fact_search, pred_search, entered, call_search, searches_of, quiet_level, search_level}
 use Rattle.pi_resume_spec.specs.Queries.{solution, answered_with, query_start, query_search}
 use Rattle.pi_resume_spec.specs.LanguageLaws.{OneAtMost, IsGuided, AreGuided, IsGuidedLevel}
 use Rattle.pi_resume_spec.proofs.PlainGoals.{calls-plain}
-use Rattle.pi_resume_spec.proofs.GuidedLemmas.{Guided, each-plain, one-renamed, one-then, one-first, one-negated, one-collected, one-counted, one-chosen, one-one, one-end, simple-guided, guided-simple, guided-only, guided-end, guided-sequence, AllGuided, guided-choice, guided-catch, guided-ticked, guided-chosen, RulesGuided, guided-rules}
+use Rattle.pi_resume_spec.proofs.GuidedLemmas.{Guided, each-plain, one-renamed, one-first, one-negated, one-collected, one-counted, one-chosen, one-one, one-end, simple-guided, guided-simple, guided-only, guided-end, guided-sequence, AllGuided, guided-choice, guided-catch, guided-ticked, guided-chosen, RulesGuided, guided-rules}
 
 -- ---- what is asked of names
 

@@ -1,14 +1,14 @@
 -- Searches whose paths lead apart and each lead to their answers, with what holds of the answers: however goals are put together.
-use Rattle.std.specs.Prelude.{◌≡◌, ℕ, zero, suc, ◌≤◌, ◌+◌, Bool, true, false, List, [], ◌∷◌, length, map, refl}
-use Rattle.std.proofs.Common.{arith, sym, ◌∙◌, ap, subst, inl, inr}
+use Rattle.std.specs.Prelude.{◌≡◌, ℕ, suc, ◌≤◌, ◌+◌, Bool, true, false, List, [], ◌∷◌, length, refl}
+use Rattle.std.proofs.Common.{arith, sym, ap, subst, inl, inr}
 use Rattle.pi_terms.specs.Tree.{Tree}
-use Rattle.pi_meaning.specs.Traces.Trace.{Trace, end, note, ans, End, Done, Raise, Abort, Miss, Deep, done, one, alt, then, first, answers}
+use Rattle.pi_meaning.specs.Traces.Trace.{Trace, end, note, ans, End, Done, Raise, Abort, Miss, Deep, one, alt, then, first, answers}
 use Rattle.pi_meaning.specs.Traces.Control.{negated, collected, counted, chosen}
-use Rattle.pi_meaning.proofs.Traces.AnswerLemmas.{EachAnswer, each-map, each-one, each-alt, each-then, each-caught, each-chosen}
-use Rattle.pi_resume_spec.specs.Ways.{Way, Ways, straight, here, without_choices, plain, choosing, numbered, behind, followed_by, choice_from, choice, catching, Apart}
-use Rattle.pi_resume_spec.specs.Resumed.{Search, simple, sequence, ways_of, alternatives, caught_search, RuleSearch, rest_unless, rules_ways, rules_search, ticked, chosen_search, At, at_first, past_note, past_answer, IsResumable}
+use Rattle.pi_meaning.proofs.Traces.AnswerLemmas.{EachAnswer, each-one, each-alt, each-then, each-caught, each-chosen}
+use Rattle.pi_resume_spec.specs.Ways.{Way, straight, choosing, numbered, behind, choice_from}
+use Rattle.pi_resume_spec.specs.Resumed.{Search, simple, sequence, ways_of, alternatives, caught_search, RuleSearch, rest_unless, rules_ways, rules_search, ticked, chosen_search, At}
 use Rattle.pi_resume_spec.specs.PathLaws.{AllApart, AllResumable}
-use Rattle.pi_resume_spec.specs.Searches.{without_paths, only, too_deep}
+use Rattle.pi_resume_spec.specs.Searches.{without_paths, only}
 use Rattle.pi_resume_spec.specs.LanguageLaws.{OneAtMost, IsGuided}
 use Rattle.pi_resume_spec.proofs.ApartLemmas.{straight_is_apart, sequences-apart, choices_are_apart, catches_are_apart, BodiesApart, rules-apart, conditions-apart, ticks_are_apart}
 use Rattle.pi_resume_spec.proofs.ResumedLemmas.{Begun, begun, sequences-resume}

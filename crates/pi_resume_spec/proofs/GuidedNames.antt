@@ -1,5 +1,5 @@
 -- All names of the language are guided, where what later stages give is.
-use Rattle.std.specs.Prelude.{◌≡◌, ℕ, Bool, true, false, cond, List, [], ◌∷◌, Option, Some, None, option_map, pos, codes, refl}
+use Rattle.std.specs.Prelude.{ℕ, Bool, true, false, cond, List, [], Option, Some, None, option_map, pos, codes}
 use Rattle.std.specs.Option.{option_or}
 use Rattle.pi_terms.specs.Tree.{Tree, int, atom, comp, Trees, no_trees, tree, tree_count}
 use Rattle.pi_terms.specs.Copy.{copy, new_variables}
@@ -11,21 +11,21 @@ use Rattle.pi_effects.specs.Effect.{Effect, Succeeds, Fails, Writes, Raises, Fun
 use Rattle.pi_effects.specs.Exception.{type_error}
 use Rattle.pi_effects.specs.Items.{each_tree}
 use Rattle.pi_effects.specs.BuiltIns.{built_in_predicate, built_in_function}
-use Rattle.pi_meaning.specs.Traces.Trace.{Trace, end, note, End, Raise, Deep, Done, Out, done, one, answers}
+use Rattle.pi_meaning.specs.Traces.Trace.{Trace, end, End, Raise, Deep, Done, answers}
 use Rattle.pi_meaning.specs.Shared.View.{View}
 use Rattle.pi_meaning.specs.Shared.Settle.{settled}
 use Rattle.pi_meaning.specs.Shared.Within.{Within, a_query, a_body, is_body, resource_left}
 use Rattle.pi_meaning.specs.Shared.Builtin.{written, effect_trace, function_trace, settled_effect}
-use Rattle.pi_meaning.specs.Shared.Level.{Level, Applied}
+use Rattle.pi_meaning.specs.Shared.Level.{Applied}
 use Rattle.pi_meaning.specs.Shared.Names.{is_later_predicate, is_later_function, is_resource, is_planner, is_catch, is_call}
 use Rattle.pi_meaning.specs.Shared.Calls as over_levels
 use Rattle.pi_meaning.specs.Shared.Calls.{Called, called_by, unknown_name, is_known, function_given}
 use Rattle.pi_meaning.specs.CoreMeaning.Instances.{core_setting}
-use Rattle.pi_resume_spec.specs.Resumed.{Search, simple, sequence, caught_search, ticked}
-use Rattle.pi_resume_spec.specs.Searches.{Searches, SearchLevel, bottom, above, searches_at, too_deep}
-use Rattle.pi_resume_spec.specs.ByName.{LaterSearches, SearchSetting, plain_setting, or_searched, built_in, given_later, predicate_given, predicate_called, handling, with_planner, known_called, Deeper, call_goal, catch_called, again_called, name_called, term_called, called_at_level, called_below, first_called, search_setting, predicate_or_call, all_names}
-use Rattle.pi_resume_spec.specs.LanguageLaws.{OneAtMost, IsGuided, AreGuided, IsGuidedLevel, IsLater}
-use Rattle.pi_resume_spec.proofs.GuidedLemmas.{Guided, one-then, one-one, one-end, simple-guided, guided-end, guided-sequence, guided-catch, guided-ticked}
+use Rattle.pi_resume_spec.specs.Resumed.{Search, simple, sequence, ticked}
+use Rattle.pi_resume_spec.specs.Searches.{SearchLevel, bottom, above, searches_at, too_deep}
+use Rattle.pi_resume_spec.specs.ByName.{LaterSearches, SearchSetting, plain_setting, built_in, given_later, predicate_given, predicate_called, handling, with_planner, known_called, Deeper, call_goal, catch_called, again_called, name_called, term_called, called_at_level, called_below, first_called, search_setting, all_names}
+use Rattle.pi_resume_spec.specs.LanguageLaws.{OneAtMost, IsGuided, IsGuidedLevel, IsLater}
+use Rattle.pi_resume_spec.proofs.GuidedLemmas.{Guided, one-then, one-one, one-end, simple-guided, guided-sequence, guided-catch, guided-ticked}
 use Rattle.pi_resume_spec.proofs.GuidedGoals.{OptionGuided, OptionOne, AreOffered, Any, any-guided, guided-at, or-guided, one-settled, guided-handled}
 
 if-guided : (test : Bool) (t u : Search State) → IsGuided t → IsGuided u → IsGuided (cond test t u)

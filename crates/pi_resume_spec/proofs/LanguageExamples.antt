@@ -1,6 +1,6 @@
 -- Small programs and goals with their paths, and runs that are resumed, worked out.
-use Rattle.std.specs.Prelude.{◌≡◌, ℕ, pos, Bool, true, false, List, [], ◌∷◌, ◌++◌, Some, None, codes, refl}
-use Rattle.pi_meaning.specs.Traces.Trace.{Trace, end, note, ans, Done, Raise, Deep, Tick, then, alt, first}
+use Rattle.std.specs.Prelude.{◌≡◌, ℕ, pos, Bool, true, false, List, [], ◌∷◌, Some, None, codes, refl}
+use Rattle.pi_meaning.specs.Traces.Trace.{end, note, ans, Done, Tick, then, alt, first}
 use Rattle.pi_meaning.specs.CoreMeaning.Run.{Solution, told}
 use Rattle.pi_meaning.specs.CoreMeaning.Instances.{no_later}
 use Rattle.pi_meaning.specs.Shared.Calls.{unknown_name}
@@ -11,10 +11,10 @@ use Rattle.pi_terms.specs.Variables.{occurrences, firsts}
 use Rattle.pi_terms.specs.Substitution.{instance}
 use Rattle.pi_terms.specs.Copy.{copy}
 use Rattle.pi_constraints.specs.Value.{rounds, value}
-use Rattle.pi_constraints.specs.State.{State, Variable, free, bound, on_ins, empty_state, followed_for, followed}
+use Rattle.pi_constraints.specs.State.{State, Variable, bound, followed_for, followed}
 use Rattle.pi_constraints.specs.Unify.{in_pairs, assigned, joined, outcome, unified_for, unbound_in, cells_of_pairs, most_pairs, all_unified}
-use Rattle.pi_terms.specs.PatternTree.{PatternTree, slot, exact_int, exact_atom, compound, named, no_patterns, pattern}
-use Rattle.pi_core.specs.GoalTree.{GoalTree, truth, fail, tick, call, apply, seq, alternatives, if_else, not, once, collect, count, catch, no_goals, goal}
+use Rattle.pi_terms.specs.PatternTree.{PatternTree, slot, no_patterns, pattern}
+use Rattle.pi_core.specs.GoalTree.{GoalTree, truth, call, alternatives, once, catch, no_goals, goal}
 use Rattle.pi_meaning.specs.Traces.Control.{negated, chosen, collected, counted, caught}
 use Rattle.pi_meaning.specs.Shared.Settle.{settled}
 use Rattle.pi_meaning.specs.Shared.Drain.{drained}
@@ -35,11 +35,8 @@ use Rattle.pi_effects.specs.Making.{making_functions}
 use Rattle.pi_effects.specs.BuiltIns.{built_in_predicate, built_in_function, tests, other_predicates, reading_functions}
 use Rattle.pi_meaning.specs.Shared.Raise.{raised_with}
 use Rattle.pi_meaning.specs.Shared.View.{query_view}
-use Rattle.pi_core.specs.CoreTree.{ClauseTree, PredTree, QueryTree, is_pred, find_pred}
+use Rattle.pi_core.specs.CoreTree.{ClauseTree, PredTree, QueryTree, find_pred}
 use Rattle.pi_terms.specs.ListCopies.{list_of_copies, new_in_all}
-use Rattle.pi_meaning.specs.CoreMeaning.Facts.{fits_modes, fact_term, fact_terms, facts}
-use Rattle.pi_syntax.specs.declared.program.Mode.{Mode}
-use Rattle.pi_core.specs.declared.core_program.SlotWatch.{SlotWatch}
 use Rattle.pi_resume_spec.specs.Ways.{Way, Ways, choice_from}
 use Rattle.pi_resume_spec.specs.Resumed.{Following, on_way, reached, bad, simple, rules_ways, rules_taken, with_rest, follows_then, taken_from, to_answer, on_first, to_exception, with_handler, resumed}
 use Rattle.pi_resume_spec.specs.Searches.{draining, strictly}

@@ -1,7 +1,7 @@
 -- The laws of the paths of the core language.
-use Rattle.std.specs.Prelude.{◌≡◌, ℕ, List, [], ◌∷◌, ◌++◌}
+use Rattle.std.specs.Prelude.{ℕ, List, [], ◌∷◌, ◌++◌}
 use Rattle.std.proofs.Common.{subst, append-nil}
-use Rattle.pi_resume_spec.specs.Ways.{Way, Ways}
+use Rattle.pi_resume_spec.specs.Ways.{Ways}
 use Rattle.pi_resume_spec.specs.Resumed.{Following, on_way, reached, cut_off, bad, resumed, Leads}
 use Rattle.pi_resume_spec.specs.ByName.{all_names}
 use Rattle.pi_resume_spec.specs.Queries.{query_search}

@@ -1,22 +1,21 @@
 -- Goals of the core language without their paths do what the core meaning says.
-use Rattle.std.specs.Prelude.{◌≡◌, ℕ, suc, List, [], ◌∷◌, Option, Some, None, option_map, pos, refl}
+use Rattle.std.specs.Prelude.{◌≡◌, ℕ, suc, List, ◌∷◌, Option, Some, None, option_map, pos, refl}
 use Rattle.std.proofs.Common.{sym, ◌∙◌, ap}
 use Rattle.pi_terms.specs.Tree.{Tree, int, Trees, trees_of}
-use Rattle.pi_terms.specs.Places.{Places}
 use Rattle.pi_constraints.specs.State.{State}
 use Rattle.pi_constraints.specs.Evaluation.{Evaluated, evaluated, EvaluatedAll, evaluated_all}
 use Rattle.pi_core.specs.GoalTree.{GoalTree, truth, fail, tick, call, apply, seq, alternatives as any_of, if_else, not, once, collect, count, catch, GoalTrees, no_goals, goal}
-use Rattle.pi_meaning.specs.Traces.Trace.{Trace, end, note, ans, Done, Raise, Abort, Miss, Deep, Tick, done, one, alt, then, first}
+use Rattle.pi_meaning.specs.Traces.Trace.{Trace, end, note, ans, Done, Raise, Abort, Miss, Deep, one, alt, then, first}
 use Rattle.pi_meaning.specs.Traces.Control.{negated, chosen, collected, counted, caught}
 use Rattle.pi_meaning.specs.Shared.Settle.{settled}
-use Rattle.pi_meaning.specs.Shared.Level.{Level, Applied, Point, calls_at, lower, ticked as ticked_plain, or_called}
+use Rattle.pi_meaning.specs.Shared.Level.{Point, calls_at, lower, ticked as ticked_plain, or_called}
 use Rattle.pi_meaning.specs.Shared.Handling.{handling as handling_plain, handled_in as handled_plain}
-use Rattle.pi_meaning.specs.CoreMeaning.Builtins.{Builtins, predicate_by as predicate_plain, function_by}
+use Rattle.pi_meaning.specs.CoreMeaning.Builtins.{predicate_by as predicate_plain, function_by}
 use Rattle.pi_meaning.specs.CoreMeaning.Meaning as over_slots
 use Rattle.pi_meaning.specs.CoreMeaning.Meaning.{Action, meaning, meaning_of_all, meaning_of_any, slot_value, copyable}
 use Rattle.pi_meaning.proofs.Traces.TraceLemmas.{then-one, then-assoc, then-alt}
-use Rattle.pi_resume_spec.specs.Ways.{plain, straight, here, numbered, choice_from}
-use Rattle.pi_resume_spec.specs.Resumed.{Search, simple, sequence, ways_of, alternatives, caught_search, chosen_search}
+use Rattle.pi_resume_spec.specs.Ways.{plain, straight, choice_from}
+use Rattle.pi_resume_spec.specs.Resumed.{Search, simple, sequence, ways_of, alternatives, chosen_search}
 use Rattle.pi_resume_spec.specs.Searches.{Searches, SearchLevel, bottom, above, searches_at, below, plain_calls, plain_level, Spot, point_of, Tries, without_paths, only, in_state, draining, strictly}
 use Rattle.pi_resume_spec.specs.ByName.{Offers, or_searched, handled_in, handling}
 use Rattle.pi_resume_spec.specs.Goals.{with_slot, after_arguments, after_term, succeeding, failing, ticking, predicate_by, calling, applying, with_list, strict, collecting, counting, catching, search, search_all, search_any}
@@ -244,6 +243,7 @@ same-choosing test yes_goal other_goal t f u a b c p =
 
 mutual
   unfolding search meaning choice_from then
+
   pub goal-plain : (b : Offers) → ArePlain b → (g : GoalTree) → Same (search b g) (meaning b.plain g)
   goal-plain b same truth = same-draining succeeding over_slots.succeeding same-succeeding
   goal-plain b same fail = same-draining failing over_slots.failing same-failing

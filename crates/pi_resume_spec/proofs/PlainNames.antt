@@ -1,5 +1,5 @@
 -- Calls by name without their paths are those of the core meaning, and so all names of the language are.
-use Rattle.std.specs.Prelude.{◌≡◌, ℕ, Bool, true, false, cond, List, [], ◌∷◌, Option, Some, None, option_map, codes, refl}
+use Rattle.std.specs.Prelude.{◌≡◌, ℕ, Bool, true, false, cond, List, [], Option, Some, None, option_map, codes, refl}
 use Rattle.std.specs.Option.{option_or}
 use Rattle.std.proofs.Common.{sym, ◌∙◌, ap}
 use Rattle.pi_terms.specs.Tree.{Tree, Trees, no_trees, tree, tree_count}
@@ -11,23 +11,21 @@ use Rattle.pi_core.specs.CoreTree.{PredTree}
 use Rattle.pi_effects.specs.Effect.{Effect}
 use Rattle.pi_effects.specs.Items.{each_tree}
 use Rattle.pi_effects.specs.BuiltIns.{built_in_predicate}
-use Rattle.pi_meaning.specs.Traces.Trace.{Trace, end, note, Raise, Deep, Tick, done, one, then}
+use Rattle.pi_meaning.specs.Traces.Trace.{Trace, end, note, Deep, Tick, then}
 use Rattle.pi_meaning.specs.Traces.Control.{caught}
 use Rattle.pi_meaning.specs.Shared.View.{View}
 use Rattle.pi_meaning.specs.Shared.Settle.{settled}
 use Rattle.pi_meaning.specs.Shared.Builtin.{settled_effect}
-use Rattle.pi_meaning.specs.Shared.Level.{Level, lowest, over, calls_at, or_called}
+use Rattle.pi_meaning.specs.Shared.Level.{calls_at, or_called}
 use Rattle.pi_meaning.specs.Shared.Names.{is_later_predicate, is_planner, is_catch, is_call}
 use Rattle.pi_meaning.specs.Shared.Handling.{handled_in as handled_plain, handling as handling_plain}
 use Rattle.pi_meaning.specs.Shared.Calls as over_levels
 use Rattle.pi_meaning.specs.Shared.Calls.{Called, called_by, unknown_name, is_known}
-use Rattle.pi_meaning.specs.CoreMeaning.Instances as core
-use Rattle.pi_resume_spec.specs.Ways.{plain}
-use Rattle.pi_resume_spec.specs.Resumed.{Search, simple, sequence, caught_search, ticked}
-use Rattle.pi_resume_spec.specs.Searches.{Searches, SearchLevel, bottom, above, searches_at, plain_calls, plain_level, without_paths, too_deep}
-use Rattle.pi_resume_spec.specs.ByName.{LaterSearches, SearchSetting, plain_setting, or_searched, built_in, given_later, predicate_given, predicate_called, handled_in, handling, with_planner, known_called, Deeper, call_goal, catch_called, again_called, name_called, term_called, called_at_level, called_below, first_called, search_setting, predicate_or_call, all_names}
+use Rattle.pi_resume_spec.specs.Resumed.{Search, simple, sequence, ticked}
+use Rattle.pi_resume_spec.specs.Searches.{SearchLevel, bottom, above, searches_at, plain_level, without_paths, too_deep}
+use Rattle.pi_resume_spec.specs.ByName.{LaterSearches, SearchSetting, plain_setting, built_in, given_later, predicate_given, predicate_called, handled_in, handling, with_planner, known_called, Deeper, call_goal, catch_called, again_called, name_called, term_called, called_at_level, called_below, first_called, search_setting, all_names}
 use Rattle.pi_resume_spec.specs.LanguageLaws.{IsLater}
-use Rattle.pi_resume_spec.proofs.PlainLemmas.{same-then, same-caught, then-caught, plain_of_catch}
+use Rattle.pi_resume_spec.proofs.PlainLemmas.{same-then, same-caught, plain_of_catch}
 use Rattle.pi_resume_spec.proofs.PlainGoals.{plain-simple, plain-sequence, calls-plain, ArePlain, or-plain}
 
 -- ---- what names do by themselves

@@ -3,7 +3,6 @@ use Rattle.std.specs.Prelude.{◌≡◌, ℕ, zero, suc, ◌+◌, Bool, true, fa
 use Rattle.std.specs.List.{list_any}
 use Rattle.std.specs.Prelude.{not as opposite}
 use Rattle.std.proofs.Common.{sym, ◌∙◌, ap, arith}
-use Rattle.std.proofs.lemmas.Bool.{cases_Bool}
 use Rattle.pi_terms.specs.Tree.{Tree, comp, Trees, tree_count}
 use Rattle.pi_terms.specs.Places.{Places}
 use Rattle.pi_constraints.specs.State.{State, bindings}
@@ -11,29 +10,27 @@ use Rattle.pi_constraints.specs.HeadMatch.{matched_all_in}
 use Rattle.pi_core.specs.GoalTree.{GoalTree, truth, fail, tick, call, apply, seq, alternatives as any_of, if_else, not, once, collect, count, catch}
 use Rattle.pi_core.specs.CoreTree.{backtracks, is_pred, find_pred, ClauseTree, PredTree, QueryTree}
 use Rattle.pi_core.specs.declared.core_program.SlotWatch.{SlotWatch}
-use Rattle.pi_core.specs.declared.core_program.NameSlot.{NameSlot}
 use Rattle.pi_syntax.specs.declared.program.Mode.{Mode}
-use Rattle.pi_meaning.specs.Traces.Trace.{Trace, end, note, Deep, Tick, done, one, alt, then}
+use Rattle.pi_meaning.specs.Traces.Trace.{Trace, note, Tick, done, one, alt, then}
 use Rattle.pi_meaning.specs.Traces.Control.{chosen}
 use Rattle.pi_meaning.specs.Shared.Drain.{drained}
-use Rattle.pi_meaning.specs.Shared.Level.{Level, lowest, over, level_of, Point, Applied, ticked as ticked_plain, unticked as unticked_plain}
-use Rattle.pi_meaning.specs.CoreMeaning.Builtins.{Builtins}
+use Rattle.pi_meaning.specs.Shared.Level.{Level, level_of, Point}
 use Rattle.pi_meaning.specs.CoreMeaning.Facts.{facts, facts_called, fits_modes}
 use Rattle.pi_meaning.specs.CoreMeaning.Meaning.{meaning, strictly as strictly_plain}
 use Rattle.pi_meaning.specs.CoreMeaning.Rules as core
 use Rattle.pi_meaning.specs.CoreMeaning.Rules.{RulesBy, rules_by, rule_by, rule_before, chosen_rule, rules, pred_run, application_run, call_run, calls_of, level_at}
 use Rattle.pi_meaning.specs.CoreMeaning.Run.{Solution, answered_with as told_with, query_trace}
-use Rattle.pi_meaning.proofs.Traces.TraceLemmas.{alt-done, then-assoc}
+use Rattle.pi_meaning.proofs.Traces.TraceLemmas.{alt-done}
 use Rattle.pi_resume_spec.specs.Ways.{plain, choice_from}
-use Rattle.pi_resume_spec.specs.Resumed.{Search, simple, sequence, ways_of, alternatives, RuleSearch, rest_unless, rules_ways, rules_search, chosen_search}
-use Rattle.pi_resume_spec.specs.Searches.{Searches, SearchLevel, bottom, above, level_with, plain_calls, plain_level, Spot, point_of, without_paths, only, strictly}
+use Rattle.pi_resume_spec.specs.Resumed.{Search, simple, ways_of, alternatives, rest_unless, rules_ways}
+use Rattle.pi_resume_spec.specs.Searches.{Searches, SearchLevel, level_with, plain_calls, plain_level, Spot, point_of, without_paths, strictly}
 use Rattle.pi_resume_spec.specs.ByName.{Offers}
-use Rattle.pi_resume_spec.specs.Goals.{search, strict}
-use Rattle.pi_resume_spec.specs.Rules.{guarded, applies_from, rule_searches, quiet_search, by_rules, body_search, body_or_agent, fact_search, facts_search, pred_search, entered, call_search, searches_of, quiet_level, search_level}
+use Rattle.pi_resume_spec.specs.Goals.{search}
+use Rattle.pi_resume_spec.specs.Rules.{guarded, applies_from, rule_searches, quiet_search, by_rules, body_or_agent, fact_search, pred_search, entered, call_search, searches_of, quiet_level, search_level}
 use Rattle.pi_resume_spec.specs.Queries.{answered_with, query_start, query_search}
 use Rattle.pi_resume_spec.specs.LanguageLaws.{QuietIsCommitted}
-use Rattle.pi_resume_spec.proofs.PlainLemmas.{same-then, same-chosen, then-renamed, plain_of_choice, plain_of_rules}
-use Rattle.pi_resume_spec.proofs.PlainGoals.{plain-simple, plain-sequence, plain-onward, plain-chosen, points, chosen-points, ArePlain, same-only, same-strict, same-strictly, goal-plain}
+use Rattle.pi_resume_spec.proofs.PlainLemmas.{same-then, then-renamed, plain_of_choice, plain_of_rules}
+use Rattle.pi_resume_spec.proofs.PlainGoals.{plain-simple, plain-sequence, plain-onward, plain-chosen, points, chosen-points, ArePlain, same-strict, same-strictly, goal-plain}
 
 -- ---- rules
 

@@ -1,7 +1,6 @@
 -- The laws of the paths of labelling and draining.
-use Rattle.std.specs.Prelude.{◌≡◌, ℕ, zero, suc, List, [], ◌∷◌, map, Option, Some, None, option_map, ℤ, ◌+◌, codes, refl}
-use Rattle.std.proofs.Common.{sym, ◌∙◌, ap, subst, arith}
-use Rattle.pi_terms.specs.Tree.{Tree}
+use Rattle.std.specs.Prelude.{◌≡◌, ℕ, zero, suc, List, [], ◌∷◌, Option, Some, None, option_map, ℤ, ◌+◌, codes, refl}
+use Rattle.std.proofs.Common.{◌∙◌, ap, subst, arith}
 use Rattle.pi_constraints.specs.State.{State, Agent, with_waiting, with_ended}
 use Rattle.pi_constraints.specs.declared.constraint.Item.{Item}
 use Rattle.pi_constraints.specs.declared.event.Activation.{Activation}
@@ -21,15 +20,15 @@ use Rattle.pi_settling.specs.Drain.{living}
 use Rattle.pi_settling.specs.Reading.{Solving}
 use Rattle.pi_settling.specs.Rounds.{begins, betters, worth, round, weighed, bettered, sought}
 use Rattle.pi_resume_spec.specs.Ways.{plain, choice_from}
-use Rattle.pi_resume_spec.specs.Resumed.{Search, simple, sequence, ways_of, alternatives, ticked, chosen_search, At, at_first, past_note, past_answer}
-use Rattle.pi_resume_spec.specs.Searches.{without_paths, only, too_deep}
+use Rattle.pi_resume_spec.specs.Resumed.{Search, simple, sequence, ways_of, At, at_first, past_note, past_answer}
+use Rattle.pi_resume_spec.specs.Searches.{without_paths, only}
 use Rattle.pi_resume_spec.specs.Label as label
 use Rattle.pi_resume_spec.specs.Label.{tried, one_tried, tries, labelled, labelled_at}
 use Rattle.pi_resume_spec.specs.Drain as drain
 use Rattle.pi_resume_spec.specs.Drain.{RuleRuns, plain_rules, decided, fired, woken, drained_from}
 use Rattle.pi_resume_spec.specs.LanguageLaws.{OneAtMost, IsGuided}
 use Rattle.pi_resume_spec.specs.StageLaws.{SettlesOnce, LabellingAddsNothing, LabellingIsGuided, SolvingAddsNothing, SolvingIsGuided, DrainingAddsNothing, IsGuidedLower, DrainingIsGuided}
-use Rattle.pi_resume_spec.proofs.PlainLemmas.{same-then, plain_of_choice}
+use Rattle.pi_resume_spec.proofs.PlainLemmas.{plain_of_choice}
 use Rattle.pi_resume_spec.proofs.PlainGoals.{plain-simple, plain-sequence, plain-chosen}
 use Rattle.pi_resume_spec.proofs.GuidedLemmas.{Guided, one-one, one-end, one-chosen, simple-guided, guided-end, guided-sequence, AllGuided, guided-choice, guided-ticked, guided-chosen}
 use Rattle.pi_resume_spec.proofs.GuidedGoals.{Any, any-guided}

@@ -1,5 +1,5 @@
 -- Calls by name, as searches: as `Shared.Calls` of the meaning has them. What is built in makes no choice; what later stages of the language give is handed in. (Own.)
-use Rattle.std.specs.Prelude.{ℕ, Bool, false, cond, List, [], ◌++◌, Option, Some, None, codes, option_map}
+use Rattle.std.specs.Prelude.{ℕ, Bool, false, cond, List, [], Option, Some, None, codes, option_map}
 use Rattle.std.specs.Option.{option_or}
 use Rattle.pi_terms.specs.Tree.{Tree, Trees, no_trees, tree, tree_count}
 use Rattle.pi_terms.specs.Copy.{copy, new_variables}
@@ -10,18 +10,17 @@ use Rattle.pi_core.specs.CoreTree.{PredTree, find_pred}
 use Rattle.pi_effects.specs.Exception.{type_error}
 use Rattle.pi_effects.specs.Items.{each_tree}
 use Rattle.pi_effects.specs.BuiltIns.{built_in_predicate}
-use Rattle.pi_meaning.specs.Traces.Trace.{Trace, end, Raise, Deep, done}
+use Rattle.pi_meaning.specs.Traces.Trace.{end, Raise, done}
 use Rattle.pi_meaning.specs.Shared.View.{View}
 use Rattle.pi_meaning.specs.Shared.Settle.{settled}
 use Rattle.pi_meaning.specs.Shared.Builtin.{settled_effect}
-use Rattle.pi_meaning.specs.Shared.Level.{Level, Applied}
 use Rattle.pi_meaning.specs.Shared.Names.{is_later_predicate, is_planner, is_catch, is_call}
 use Rattle.pi_meaning.specs.Shared.Given.{Later, Setting}
 use Rattle.pi_meaning.specs.Shared.Calls.{Called, called_by, unknown_name, is_known}
 use Rattle.pi_meaning.specs.CoreMeaning.Builtins.{Builtins}
 use Rattle.pi_meaning.specs.CoreMeaning.Instances.{is_called_by_name, whole}
 use Rattle.pi_resume_spec.specs.Resumed.{Search, simple, sequence, caught_search, ticked}
-use Rattle.pi_resume_spec.specs.Searches.{Searches, SearchLevel, bottom, above, searches_at, too_deep}
+use Rattle.pi_resume_spec.specs.Searches.{SearchLevel, bottom, above, searches_at, too_deep}
 
 -- what later stages give, with paths and without
 pub record LaterSearches : Type 0 where

@@ -8,8 +8,7 @@ use Rattle.pi_constraints.specs.Evaluation.{Evaluated, evaluated, EvaluatedAll, 
 use Rattle.pi_core.specs.GoalTree.{GoalTree, truth, fail, tick, call, apply, seq, alternatives as any_of, if_else, not, once, collect, count, catch, GoalTrees, no_goals, goal}
 use Rattle.pi_meaning.specs.Traces.Trace.{Trace, done, one, then, first}
 use Rattle.pi_meaning.specs.Traces.Control.{negated, collected, counted}
-use Rattle.pi_meaning.specs.Shared.Level.{Applied, or_applied}
-use Rattle.pi_meaning.specs.CoreMeaning.Builtins.{Builtins, function_by}
+use Rattle.pi_meaning.specs.CoreMeaning.Builtins.{function_by}
 use Rattle.pi_meaning.specs.CoreMeaning.Meaning.{slot_value, copyable}
 use Rattle.pi_resume_spec.specs.Resumed.{Search, simple, sequence, alternatives, caught_search, chosen_search}
 use Rattle.pi_resume_spec.specs.Searches.{SearchLevel, Spot, Tries, below, plain_level, without_paths, only, ticked_at, in_state, draining, strictly}

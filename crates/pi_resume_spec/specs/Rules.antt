@@ -14,7 +14,6 @@ use Rattle.pi_syntax.specs.declared.program.Mode.{Mode}
 use Rattle.pi_meaning.specs.Traces.Trace.{Trace, done, one}
 use Rattle.pi_meaning.specs.Shared.Settle.{settled_from}
 use Rattle.pi_meaning.specs.Shared.Drain.{drained}
-use Rattle.pi_meaning.specs.Shared.Level.{Level}
 use Rattle.pi_meaning.specs.CoreMeaning.Facts.{fact_terms, unified_with, fits_modes}
 use Rattle.pi_meaning.specs.CoreMeaning.Rules.{suspended, application_run}
 use Rattle.pi_resume_spec.specs.Resumed.{Search, simple, sequence, alternatives, RuleSearch, rules_search, chosen_search}

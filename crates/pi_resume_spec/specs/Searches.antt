@@ -1,6 +1,6 @@
 -- What calls do, as searches: as the levels of the core meaning have it, but that each answer has its path. (Own.)
-use Rattle.std.specs.Prelude.{ℕ, List, Option, Some, None, option_map}
-use Rattle.pi_terms.specs.Tree.{Tree, Trees}
+use Rattle.std.specs.Prelude.{ℕ, List, Option, Some, None}
+use Rattle.pi_terms.specs.Tree.{Trees}
 use Rattle.pi_terms.specs.Places.{Places}
 use Rattle.pi_constraints.specs.State.{State}
 use Rattle.pi_meaning.specs.Traces.Trace.{Trace, end, Deep, one}

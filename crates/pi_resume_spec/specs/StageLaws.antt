@@ -1,5 +1,5 @@
 -- The laws of the paths of labelling and draining.
-use Rattle.std.specs.Prelude.{◌≡◌, ℕ, List, Option, Some, None, option_map}
+use Rattle.std.specs.Prelude.{◌≡◌, ℕ, List, Option, Some, option_map}
 use Rattle.pi_terms.specs.Tree.{Tree}
 use Rattle.pi_constraints.specs.State.{State}
 use Rattle.pi_constraints.specs.declared.constraint.Item.{Item}
@@ -14,7 +14,7 @@ use Rattle.pi_meaning.specs.Traces.Trace.{Trace}
 use Rattle.pi_resume_spec.specs.Resumed.{Search, At}
 use Rattle.pi_resume_spec.specs.Searches.{without_paths}
 use Rattle.pi_resume_spec.specs.Label.{labelling, solved_for}
-use Rattle.pi_resume_spec.specs.Drain.{RuleRuns, Lower, plain_lower, drained}
+use Rattle.pi_resume_spec.specs.Drain.{Lower, plain_lower, drained}
 use Rattle.pi_resume_spec.specs.LanguageLaws.{OneAtMost, IsGuided}
 
 -- settling has one answer at most
