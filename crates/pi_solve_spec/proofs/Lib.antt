@@ -1,9 +1,3 @@
-pub mod PlainLemmas
-pub mod ApartLemmas
-pub mod ResumedLemmas
-pub mod ChoiceLemmas
-pub mod PathExamples
-pub mod SimpleLemmas
 pub mod CallLemmas
 pub mod GoalLemmas
 pub mod RuleLemmas

@@ -1,6 +1,3 @@
-pub mod Ways
-pub mod Resumed
-pub mod PathLaws
 pub mod Rest
 pub mod RestLaws
 pub mod Written

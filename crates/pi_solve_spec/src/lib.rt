@@ -1,6 +1,5 @@
-//! Plans: the bodies of planner calls, steps, valid plans, exhausted numbers and right entries of a log; paths of answers, and
-//! the resumed run; and that programs that don't ask
-//! for what is left of a planner's limit mean the same whatever is left. As definitions, with their laws.
+//! Plans: the bodies of planner calls, steps, valid plans, exhausted numbers and right entries of a log; and that programs that don't
+//! ask for what is left of a planner's limit mean the same whatever is left. As definitions, with their laws.
 #![tactic(auto)]
 
 pub mod laws;

@@ -1,0 +1,4 @@
+pub mod Token
+pub mod Following
+pub mod Guided
+pub mod Scanned

@@ -1,0 +1,40 @@
+-- The laws of the paths of the core language.
+use Rattle.std.specs.Prelude.{ℕ, List, [], ◌∷◌, ◌++◌}
+use Rattle.std.proofs.Common.{subst, append-nil}
+use Rattle.pi_resume_spec.specs.Ways.{Ways}
+use Rattle.pi_resume_spec.specs.Resumed.{Following, on_way, reached, cut_off, bad, resumed, Leads}
+use Rattle.pi_resume_spec.specs.ByName.{all_names}
+use Rattle.pi_resume_spec.specs.Queries.{query_search}
+use Rattle.pi_resume_spec.specs.LanguageLaws.{PathsAddNothing, GoalsAddNothing, AnswersHaveTheirPaths, RunsResume}
+use Rattle.pi_resume_spec.proofs.ApartLemmas.{no_two_paths_are_one}
+use Rattle.pi_resume_spec.proofs.PlainGoals.{goal-plain}
+use Rattle.pi_resume_spec.proofs.PlainRules.{query-plain}
+use Rattle.pi_resume_spec.proofs.PlainNames.{names-plain}
+use Rattle.pi_resume_spec.proofs.GuidedGoals.{query-guided}
+use Rattle.pi_resume_spec.proofs.GuidedNames.{names-offered}
+
+pub paths-add-nothing : PathsAddNothing
+paths-add-nothing v later is program q committed d =
+    query-plain (all_names v later (program ++ q.helpers)) (names-plain v later is (program ++ q.helpers)) program q committed d
+
+pub goals-add-nothing : GoalsAddNothing
+goals-add-nothing v later is preds g p = goal-plain (all_names v later preds) (names-plain v later is preds) g p
+
+pub answers-have-their-paths : AnswersHaveTheirPaths
+answers-have-their-paths v later is program q d =
+    let g = query-guided (all_names v later (program ++ q.helpers)) (names-offered v later is (program ++ q.helpers)) program q d in
+    (g.apart, no_two_paths_are_one (query_search (all_names v later (program ++ q.helpers)) program q d).ways g.apart)
+
+leads-resumed : {A : Type 0} (f : Following A) (path : List ℕ) (x : A) (rest : Ways A) → Leads f path x [] rest → Leads (resumed f) path x [] rest
+unfolding Leads resumed
+leads-resumed (on_way n f) path x rest h = leads-resumed f path x rest h
+leads-resumed (reached made y [] later) path x rest h = h
+leads-resumed (reached made y (n ∷ left) later) path x rest h = absurd (cc)
+leads-resumed (cut_off e) path x rest h = h
+leads-resumed bad path x rest h = h
+
+pub runs-resume : RunsResume
+runs-resume v later is program q d w rest at =
+    let s = query_search (all_names v later (program ++ q.helpers)) program q d in
+    let g = query-guided (all_names v later (program ++ q.helpers)) (names-offered v later is (program ++ q.helpers)) program q d in
+    leads-resumed (s.follows w.path) w.path w.answer rest (subst (λ (p : List ℕ). Leads (s.follows p) w.path w.answer [] rest) (append-nil w.path) (g.resumes w rest [] at))

@@ -1,0 +1,15 @@
+pub mod PlainLemmas
+pub mod ApartLemmas
+pub mod ResumedLemmas
+pub mod ChoiceLemmas
+pub mod PathExamples
+pub mod SimpleLemmas
+pub mod PlainGoals
+pub mod PlainRules
+pub mod PlainNames
+pub mod GuidedLemmas
+pub mod GuidedGoals
+pub mod GuidedNames
+pub mod LanguageLemmas
+pub mod StageLemmas
+pub mod LanguageExamples

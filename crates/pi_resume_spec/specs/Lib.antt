@@ -1,0 +1,12 @@
+pub mod Ways
+pub mod Resumed
+pub mod PathLaws
+pub mod Searches
+pub mod ByName
+pub mod Goals
+pub mod Rules
+pub mod Queries
+pub mod LanguageLaws
+pub mod Label
+pub mod Drain
+pub mod StageLaws

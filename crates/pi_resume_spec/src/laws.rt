@@ -1,0 +1,4 @@
+//! Laws of the definitions, each a clause of a function that does nothing.
+pub mod language;
+pub mod paths;
+pub mod stages;

@@ -1,0 +1,16 @@
+//! Laws of the paths of labelling and draining.
+ghost use Rattle.pi_resume_spec.specs.StageLaws.{LabellingAddsNothing, LabellingIsGuided, SolvingAddsNothing, SolvingIsGuided, DrainingAddsNothing, DrainingIsGuided};
+
+/// Labelling with the paths of its alternatives is labelling, and its paths lead apart, each to its answer.
+pub fn labellings_have_paths()
+    ensures plain { LabellingAddsNothing }
+    ensures guided { LabellingIsGuided }
+    ensures solve { SolvingAddsNothing }
+    ensures solve_guided { SolvingIsGuided }
+{}
+
+/// So it is of what runs the activations that wait, whatever a place behind a rule's condition is.
+pub fn drainings_have_paths<X>()
+    ensures plain { DrainingAddsNothing X }
+    ensures guided { DrainingIsGuided X }
+{}
