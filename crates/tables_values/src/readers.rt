@@ -1,6 +1,7 @@
 //! Cases of readers: of texts, as tokens, expressions, programs, goals and built-in names; and of the prelude.
 mod builtins;
 mod expressions;
+mod places;
 pub(crate) mod prelude;
 mod programs;
 mod tokens;
@@ -16,18 +17,20 @@ enum Subject {
     Programs,
     Goals,
     Parts,
+    Places,
     Trees,
     Builtins,
 }
 
 /// Each subject with its name.
-const SUBJECTS: [(&str, Subject); 8] = [
+const SUBJECTS: [(&str, Subject); 9] = [
     ("tokens", Subject::Tokens),
     ("expressions", Subject::Expressions),
     ("long_expressions", Subject::LongExpressions),
     ("programs", Subject::Programs),
     ("goals", Subject::Goals),
     ("parts", Subject::Parts),
+    ("places", Subject::Places),
     ("trees", Subject::Trees),
     ("builtins", Subject::Builtins),
 ];
@@ -49,6 +52,7 @@ pub fn answer_text(subject: &str, line: &str, case: &Case) -> bool {
         Subject::Programs => programs::tell_verdict(case, line),
         Subject::Goals => programs::tell_goal_verdict(case, line),
         Subject::Parts => programs::tell_parts(case, line),
+        Subject::Places => places::answer(case, line),
         Subject::Trees => programs::tell_canonical(case, line),
         Subject::Builtins => builtins::answer(case, line),
     }
