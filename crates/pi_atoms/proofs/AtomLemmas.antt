@@ -91,7 +91,3 @@ grows_after ks ms k b names name e f t =
     let at : bytes_of ms ≡ names ++ g.0 = ap bytes_of e ∙ (g.1 ∙ ap (λ l. l ++ g.0) f) in
     let P : List ℕ → Type 0 = λ x. (g.0 ≡ []) ⊎ (g.0 ≡ x ∷ []) in
     (g.0, at, subst P t g.2)
-
--- nothing is added
-pub grows_none : (names : List (List ℕ)) (name : List ℕ) → Gains names names name
-grows_none names name = ([], sym (append-nil names), inl refl)

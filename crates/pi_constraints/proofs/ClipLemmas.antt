@@ -108,14 +108,6 @@ high_part k n m lo hi h e g l =
     let t : int_le lo m ≡ true = grind (arith, ints) in
     e ∙ (ap (λ (x : Bool). x && int_le m hi) t ∙ ap (λ (x : ℤ). int_le m x) g)
 
--- past the bounds no number is left out
-pub all_within : (n m : ℤ) → (IsWithinBounds n → ⊥) → IsWithinBounds m → (int_le (neg_ℤ MAX_VALUE) m && int_le m MAX_VALUE) ≡ not (int_eq m n)
-all_within n m out h =
-    let other : int_eq m n ≡ false = elim (int_eq_is m n) [ inl e ↦ absurd (out (subst IsWithinBounds e.1 h)) | inr e ↦ e.0 ] in
-    let t : int_le (neg_ℤ MAX_VALUE) m ≡ true = grind (arith, ints) in
-    let u : int_le m MAX_VALUE ≡ true = grind (arith, ints) in
-    grind (arith, t, u, other)
-
 -- where the ends are within the bounds, all between them is
 pub span_within : (lo hi n : ℤ) → (lo ≤ℤ hi → IsWithinBounds lo × IsWithinBounds hi) → (int_le lo n && int_le n hi) ≡ true → IsWithinBounds n
 span_within lo hi n h e =

@@ -71,9 +71,6 @@ IsState-changed s n v is made good acyclic =
 
 -- ---- unbound variables and domains
 
-pub domain_is : (s : State) (n : ℕ) → domain_of s n ≡ domain_in (variable s n)
-domain_is s n = refl
-
 from_variable : (v : Variable) (d : List Span) → domain_in v ≡ Some d → binding v ≡ None
 from_variable free d is = refl
 from_variable (within e) d is = refl

@@ -162,20 +162,6 @@ cell-at g cells i c e lt is = is ∙ (ap (λ r. get_or r i c) e ∙ get_or-map c
 
 -- ---- the child goals from one of them on
 
-drop_goals-suc : (gs : GoalTrees) (k : ℕ) → k < count_goals gs → drop_goals k gs ≡ goal (goal_at gs k) (drop_goals (suc k) gs)
-unfolding count_goals drop_goals goal_at
-drop_goals-suc no_goals k h = absurd (omega arith)
-drop_goals-suc (goal g gs) zero h = refl
-drop_goals-suc (goal g gs) (suc k) h = drop_goals-suc gs k (omega arith)
-
-pub drop_goals-more : (gs : GoalTrees) (k : ℕ) → k < count_goals gs → drop_goals k gs ≡ goal (goal_at gs k) (drop_goals (k + 1) gs)
-drop_goals-more gs k h = drop_goals-suc gs k h ∙ ap (λ n. goal (goal_at gs k) (drop_goals n gs)) (sym (add-one k))
-
-pub drop_goals-all : (gs : GoalTrees) → drop_goals (count_goals gs) gs ≡ no_goals
-unfolding count_goals drop_goals
-drop_goals-all no_goals = refl
-drop_goals-all (goal g gs) = drop_goals-all gs
-
 -- ---- a step over the cells of a child goal
 
 pub place_of-first : (g : GoalTree) (i : ℕ) → i + 1 ≡ place_of g i 0

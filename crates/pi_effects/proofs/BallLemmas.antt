@@ -22,9 +22,6 @@ use Rattle.pi_effects.specs.declared.fault.Stop.{Stop}
 
 -- ---- copies
 
-pub copied-some : (u read made : Tree) → ShowsRead u (Ok read) → made ≡ copy 0 read → IsCopied u (Some made)
-copied-some u read made h e = (e ∙ ap (copy 0) h.0, h.1)
-
 -- a ball that is made of a copy, and what stands in its place
 raised-few : (u ball : Tree) → cells u ≤ most_cells → raised_of u ball ≡ ball
 raised-few u ball few = ap (λ q. cond q term_too_large ball) (not-less most_cells (cells u) few)

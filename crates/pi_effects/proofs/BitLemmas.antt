@@ -16,10 +16,6 @@ bit_at-without m n i =
     bit_at_xor m (bit_and m n) i ∙ ap (λ (x : ℕ). (bit_at m i + x) % 2) (bit_at_and m n i)
     ∙ without_digit (bit_at m i) (bit_at n i) (bit_at-lt m i) (bit_at-lt n i)
 
-pub bit_of-complement : (a : ℤ) (i : ℕ) → bit_of (complement a) i ≡ 1 - bit_of a i
-bit_of-complement (pos m) i = refl
-bit_of-complement (negsuc m) i = omega (arith, bit_at-lt m i)
-
 pub bit_of-and : (a b : ℤ) (i : ℕ) → bit_of (bits_and a b) i ≡ min (bit_of a i) (bit_of b i)
 bit_of-and (pos m) (pos n) i = bit_at_and m n i
 bit_of-and (pos m) (negsuc n) i = bit_at-without m n i

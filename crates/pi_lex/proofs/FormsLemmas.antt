@@ -6,10 +6,6 @@ use Rattle.std.specs.Char.{is_digit}
 use Rattle.pi_lex.specs.Forms.{Spells, nothing, plain, escape, IsDigits, last, digit, underscored, IsClosed, EndsDigits}
 use Rattle.pi_syntax.specs.Tokens.{line_feed, backslash, underscore, escaped, closing_place, unescaped, digits_end, goes_on, first}
 
--- `_` is no digit
-pub underscore_is_no_digit : (radix : ℕ) → radix ≤ 36 → is_digit underscore radix ≡ false
-underscore_is_no_digit radix h = grind (arith, nat_tests)
-
 -- what is spelled is found, up to the closing quote
 pub closing_place-spelled : (quote place : ℕ) (body meaning rest : List ℕ) → quote ≢ backslash → Spells quote body meaning
     → closing_place quote false place (body ++ quote ∷ rest) ≡ Some (place + length body)
@@ -44,11 +40,6 @@ pub IsClosed-escape : (quote place c d e : ℕ) (rest : List ℕ) (found : ℕ) 
 IsClosed-escape quote place c d e rest found same is (n, at, spells, quoted, within) =
     let P : ℕ → Type 0 = λ x. IsClosed quote place (x ∷ d ∷ rest) found in
     subst P (sym same) (suc (suc n), omega arith, rw is (escape d e is spells), quoted, omega arith)
-
--- the tests of `closing_place`, one by one
-pub closing_place-plain : (quote place c : ℕ) (rest : List ℕ) → c ≢ quote → c ≢ line_feed
-    → closing_place quote false place (c ∷ rest) ≡ closing_place quote (c == backslash) (place + 1) rest
-closing_place-plain quote place c rest unquoted unbroken = grind (arith, nat_tests)
 
 pub closing_place-escape : (quote place c d : ℕ) (rest : List ℕ) (found : ℕ) → c ≢ quote → c ≢ line_feed → c ≡ backslash
     → closing_place quote false place (c ∷ d ∷ rest) ≡ Some found

@@ -31,9 +31,6 @@ HasRoom-left old new n m room grows some within = record {
   forms = omega (arith, room.forms, grows.forms, some, within);
 }
 
-pub Extends-none : {X : Type 0} (xs : List X) → Extends xs xs
-Extends-none xs = ([], sym (append-nil xs))
-
 Extends-then : {X : Type 0} (xs ys zs : List X) → Extends xs ys → Extends ys zs → Extends xs zs
 Extends-then xs ys zs first then = (first.0 ++ then.0, then.1 ∙ (ap (λ l. l ++ then.0) first.1 ∙ append_assoc xs first.0 then.0))
 

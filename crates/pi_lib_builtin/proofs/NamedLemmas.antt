@@ -59,9 +59,6 @@ found-known known name (r ∷ rows) f all is =
 abbrev pub is_there : {F : Type 0} → List (Named F) → List ℕ → Bool
 is_there rows name = is_some (first_named name rows)
 
-pub not-there : {F : Type 0} (rows : List (Named F)) (name : List ℕ) → first_named name rows ≡ None → is_there rows name ≡ false
-not-there rows name e = ap is_some e
-
 -- lines that take so many arguments have names that are known
 abbrev pub knows : {R : Type 0} → (List ℕ → Bool) → ℕ → Row R → Bool
 knows known k l = known l.name || not (fits l.body k)

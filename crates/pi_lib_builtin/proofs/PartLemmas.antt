@@ -19,18 +19,6 @@ Tests v k b test = (f : List ℕ) → IsName v k f → b ≡ test f
 
 -- ---- lists
 
-pub variable-part : {M : Type 0} (v : StoreView M) (u : Tree) (n : ℕ) → ShowsCell v u (Cell.Var n) → ShowsPart u Part.Other
-variable-part v u n e = (ap is_nil e, ap cell_parts e)
-
-pub integer-part : {M : Type 0} (v : StoreView M) (u : Tree) (cell : Cell) (n : _) → cell ≡ Cell.Int n → ShowsCell v u cell → ShowsPart u Part.Other
-integer-part v u cell n is shows = let e : u ≡ int n = subst (ShowsCell v u) is shows in (ap is_nil e, ap cell_parts e)
-
-pub nil-part : {M : Type 0} (v : StoreView M) (u : Tree) (k : ℕ) (b : Bool) → ShowsCell v u (Cell.Atom k) → Tests v k b (λ f. bytes_eq f nil) → b ≡ true → ShowsPart u Part.Nil
-nil-part v u k b (name, is, e) test h = ap is_nil e ∙ (sym (test name is) ∙ h)
-
-pub atom-part : {M : Type 0} (v : StoreView M) (u : Tree) (k : ℕ) (b : Bool) → ShowsCell v u (Cell.Atom k) → Tests v k b (λ f. bytes_eq f nil) → b ≡ false → ShowsPart u Part.Other
-atom-part v u k b (name, is, e) test h = (ap is_nil e ∙ (sym (test name is) ∙ h), ap cell_parts e)
-
 both-hold : (a b : Bool) → (a && b) ≡ true → (a ≡ true) × (b ≡ true)
 both-hold true true h = (refl, refl)
 both-hold true false h = absurd (true≢false (sym h))
@@ -70,16 +58,6 @@ compound-part v u k count b (name, is, e, many) test h =
     (ap is_nil e, ap cell_parts e ∙ no-cell name (args u) count many (sym (test name is) ∙ h))
 
 -- ---- arrays and other compounds
-
--- a term without arguments has no size
-abbrev NoCompound : Cell → Type 0
-NoCompound cell = (k count : ℕ) → cell ≡ Cell.Comp k count → ⊥
-
-pub no-size : {M : Type 0} (v : StoreView M) (u : Tree) (cell : Cell) → NoCompound cell → ShowsCell v u cell → (array_parts u ≡ None) × (structure_parts u ≡ None)
-no-size v u (Cell.Var n) other shows = (ap array_parts shows, ap structure_parts shows)
-no-size v u (Cell.Int n) other shows = (ap array_parts shows, ap structure_parts shows)
-no-size v u (Cell.Atom k) other shows = (ap array_parts shows.2, ap structure_parts shows.2)
-no-size v u (Cell.Comp k count) other shows = absurd (other k count refl)
 
 pub array-size : {M : Type 0} (v : StoreView M) (u : Tree) (k count : ℕ) (b : Bool) → ShowsCell v u (Cell.Comp k count) → Tests v k b (λ f. bytes_eq f array_name) → b ≡ true → ShowsSize array_parts u (Some count)
 array-size v u k count b (name, is, e, many) test h =

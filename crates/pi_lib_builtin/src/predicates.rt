@@ -1,7 +1,4 @@
 //! The built-in predicates. A User's Guide to Picat, 'Appendix: Predicates and Functions'; which of them are there is own.
-ghost use Rattle.std.specs.Prelude.{◌≡◌};
-ghost use Rattle.pi_lib_builtin.specs.Names.{may_bind};
-
 use crate::kinds::TermKind;
 use crate::ordering::TermRelation;
 use crate::relations::Relation;
@@ -51,16 +48,4 @@ pub enum Predicate {
     OfTwo(PredicateOfTwo),
     /// `printf`, with 1 to 16 arguments
     Printf,
-}
-
-impl Predicate {
-    /// Whether it can bind variables. No other predicate changes the state.
-    pub fn may_bind(self) -> bool
-        ensures { result ≡ may_bind self }
-    {
-        match self {
-            Predicate::OfTwo(PredicateOfTwo::Unify) => true,
-            _ => false,
-        }
-    }
 }

@@ -35,15 +35,6 @@ roots_settled items many roots f k l =
     let m : k < many = omega (arith, f.count) in
     f.same (root_at roots k) k (f.inside k m) m (f.one k m)
 
-pub roots_none : (items : List Item) (known : ℕ → Option ℕ) → ((v : ℕ) → known v ≡ None) → RootsSoFar items 0 [] known
-roots_none items known none = record {
-  count = refl;
-  inside = λ k l. absurd (omega arith);
-  one = λ k l. absurd (omega arith);
-  sound = λ v r e. absurd (cc (sym (none v) ∙ e));
-  whole = λ k v l e. absurd (omega arith);
-}
-
 -- ---- one more root
 
 none_some : (x : ℕ) → None ≡ Some x → ⊥

@@ -22,9 +22,6 @@ pub record SoFar (m : ℤ) (f : Bool) (old now : List (ℤ × ℕ)) (es rest : L
   -- what is to be joined has the coefficient that it had
   pub there : (n : ℕ) → found n rest ≢ None → coefficient (terms_of f es) n ≡ coefficient (terms_of f rest) n
 
-pub so_far_none : (m : ℤ) (f : Bool) (old : List (ℤ × ℕ)) (es : List (ℕ × Coefficient)) → Ascend 0 (terms_of f es) → SoFar m f old old es es
-so_far_none m f old es s = record { rest_ascends = s; total = λ n. refl; there = λ n h. refl }
-
 from_first : (f : Bool) (k : ℕ) (es : List (ℕ × Coefficient)) → Ascend (suc k) (terms_of f es) → found k es ≡ None
 from_first f k es s = not_found f (suc k) k es s (omega arith)
 

@@ -19,9 +19,6 @@ none_or_one : (b : Bool) → not b ≡ (one_where true b == 0)
 none_or_one true = refl
 none_or_one false = refl
 
-none_there : (b : Bool) → true ≡ (one_where false b == 0)
-none_there b = refl
-
 plain_fits : (negated : Bool) (z : ℤ) → has_128_bits z ≡ true → has_128_bits (signed negated z) ≡ (one_where negated (is_least z) == 0)
 plain_fits false z e = e
 plain_fits true z e = opposite_fits z e ∙ none_or_one (is_least z)

@@ -1,6 +1,6 @@
 -- Terms are told by their coefficients, and so is whether they have 128 bits.
 use Rattle.std.specs.Prelude.{◌≡◌, ℕ, suc, ◌<◌, ◌==◌, Bool, true, false, ◌&&◌, cond, List, [], ◌∷◌, Result, Ok, Err, ℤ, pos, negsuc, ◌+ℤ◌, ◌*ℤ◌, refl}
-use Rattle.std.proofs.Common.{arith, eqb-true, ◌∙◌, ap, sym, subst}
+use Rattle.std.proofs.Common.{arith, eqb-true, ◌∙◌, ap, sym}
 use Rattle.std.proofs.lemmas.Int.{ints}
 use Rattle.pi_effects.specs.Range.{has_128_bits}
 use Rattle.pi_prop_spec.specs.PostingSums.{Ascend, coefficient}
@@ -72,6 +72,3 @@ scales_once m u e n = once (coefficient u n) ∙ ap (λ (k : ℤ). k *ℤ coeffi
   where
     once : (x : ℤ) → x ≡ pos 1 *ℤ x
     once x = omega (arith, ints)
-
-pub scales_by : (m k : ℤ) (u now : List (ℤ × ℕ)) → k ≡ m → Scales m u now → Scales k u now
-scales_by m k u now e s = subst (λ (j : ℤ). Scales j u now) (sym e) s

@@ -1,18 +1,15 @@
 -- Products and absolute values, as they are read.
-use Rattle.std.specs.Prelude.{◌≡◌, ℕ, suc, ◌≤◌, Bool, true, false, cond, nat_abs, List, [], ◌∷◌, Option, Some, None, Result, Ok, Err, ℤ, pos, FitsSigned, neg_ℤ, refl}
-use Rattle.std.specs.Int.{w128}
+use Rattle.std.specs.Prelude.{◌≡◌, ℕ, suc, ◌≤◌, Bool, true, false, cond, List, [], ◌∷◌, Option, Some, None, Result, Ok, Err, ℤ, refl}
 use Rattle.std.proofs.Common.{arith, ◌∙◌, ap, sym}
-use Rattle.std.proofs.lemmas.Int.{ints}
-use Rattle.pi_effects.specs.Range.{has_128_bits}
 use Rattle.pi_constraints.specs.declared.constraint.Item.{Item}
 use Rattle.pi_constraints.specs.declared.constraint.Constraint.{Constraint}
-use Rattle.pi_prop_spec.specs.PostingSums.{Sum, of_number, of_variable, scaled}
-use Rattle.pi_prop_spec.specs.Steps.{Refusal, wide_coefficient, Made, Known, Reading, gives, refuses, after, then, have_128_bits, step, constant_of, variable_of, side, side_by, product, product_by, product_variable, absolute_sum, absolute_by, absolute_variable}
+use Rattle.pi_prop_spec.specs.PostingSums.{Sum, of_variable}
+use Rattle.pi_prop_spec.specs.Steps.{Refusal, wide_coefficient, Made, Known, Reading, gives, refuses, after, then, step, variable_of, side, side_by, product, product_variable, absolute_variable}
 use Rattle.pi_prop_spec.specs.Limits.{are_values, refusal_of}
 use Rattle.pi_prop_made.specs.declared.stop.SumStop.{SumStop}
 use Rattle.pi_prop_made.specs.Steps.{fits, ShowsStep}
 use Rattle.pi_prop_made.specs.declared.making.Making.{Making}
-use Rattle.pi_prop_made.specs.Making.{Shows, Reads, ShowsReading, AllBelow, side_product, side_absolute, with_constraint, with_variable}
+use Rattle.pi_prop_made.specs.Making.{Shows, Reads, ShowsReading, AllBelow, side_product, with_constraint, with_variable}
 
 -- ---- constraints over variables alone keep their limits
 
@@ -25,9 +22,6 @@ unfolding are_values
 absolute_keeps z x = refl
 
 -- ---- a step behind a reading
-
-known : Sum → Made → Result (Known Sum) Refusal
-known w k = Ok (record { what = w; made = k })
 
 step_fits : (w : Sum) (k : Made) → fits w ≡ true → step w k ≡ Ok (record { what = w; made = k })
 step_fits w k e = ap (λ (b : Bool). cond b (gives w) (refuses wide_coefficient) k) e
@@ -93,46 +87,3 @@ sides_read u v m x y mid last new r a b s =
     reading_as (then (side_product u v) step) (then (product_variable x y) step) m b.made new r
     (ap (λ (o : Result (Known ℕ) Refusal). after (after o (λ i. then (side v) (λ j. product_variable i j))) step) a.is
     ∙ ap (λ (o : Result (Known ℕ) Refusal). after (after o (λ j. product_variable x j)) step) b.is) s
-
-pub side_read : (u : Sum) (m : Made) (x : ℕ) (mid new : Making) (r : Result Sum SumStop) → (a : Reads (side u) m x mid) → ShowsReading (then (absolute_variable x) step) a.made new r → ShowsReading (then (side_absolute u) step) m new r
-side_read u m x mid new r a s =
-    reading_as (then (side_absolute u) step) (then (absolute_variable x) step) m a.made new r (ap (λ (o : Result (Known ℕ) Refusal). after (after o absolute_variable) step) a.is) s
-
--- ---- constants
-
-pub left_number : (c : ℤ) (u v : Sum) (m : Made) (new : Making) (r : Result Sum SumStop) → Some c ≡ constant_of u → Shows new m → ShowsStep r (scaled c v) → ShowsReading (then (product u v) step) m new r
-left_number c u v m new r e s t = read_step (product u v) m m (scaled c v) new r (ap (λ (o : Option ℤ). product_by o (constant_of v) u v m) (sym e)) s t
-
-pub right_number : (d : ℤ) (u v : Sum) (m : Made) (new : Making) (r : Result Sum SumStop) → None ≡ constant_of u → Some d ≡ constant_of v → Shows new m → ShowsStep r (scaled d u) → ShowsReading (then (product u v) step) m new r
-right_number d u v m new r e f s t = read_step (product u v) m m (scaled d u) new r (λ i. product_by (sym e i) (sym f i) u v m) s t
-
-pub no_number : (u v : Sum) (m : Made) (new : Making) (r : Result Sum SumStop) → None ≡ constant_of u → None ≡ constant_of v → ShowsReading (then (side_product u v) step) m new r → ShowsReading (then (product u v) step) m new r
-no_number u v m new r e f s = reading_as (then (product u v) step) (then (side_product u v) step) m m new r (λ i. after (product_by (sym e i) (sym f i) u v m) step) s
-
-number_fits : (k : ℤ) → has_128_bits k ≡ true → fits (of_number k) ≡ true
-unfolding have_128_bits
-number_fits k h = h
-
-number_wide : (k : ℤ) → has_128_bits k ≡ false → fits (of_number k) ≡ false
-unfolding have_128_bits
-number_wide k h = h
-
-pub absolute_number : (c k : ℤ) (u : Sum) (m : Made) (new : Making) (made : Sum) → Some c ≡ constant_of u → Shows new m → FitsSigned w128 c → FitsSigned w128 (neg_ℤ c) → k ≡ pos (nat_abs c) → made ≡ of_number k →
-    ShowsReading (then (absolute_sum u) step) m new (Ok made)
-absolute_number c k u m new made e s r h i j =
-    let bits : has_128_bits (pos (nat_abs c)) ≡ true = size_fits c r h in
-    read_step (absolute_sum u) m m (of_number (pos (nat_abs c))) new (Ok made) (ap (λ (o : Option ℤ). absolute_by o u m) (sym e)) s (j ∙ ap of_number i, number_fits (pos (nat_abs c)) bits)
-  where
-    size_fits : (c : ℤ) → FitsSigned w128 c → FitsSigned w128 (neg_ℤ c) → has_128_bits (pos (nat_abs c)) ≡ true
-    size_fits c r h = grind (arith, ints, r, h)
-
-pub absolute_too_wide : (c : ℤ) (u : Sum) (m : Made) (new : Making) → Some c ≡ constant_of u → Shows new m → (FitsSigned w128 (neg_ℤ c) → ⊥) → FitsSigned w128 c → ShowsReading (then (absolute_sum u) step) m new (Err SumStop.Wide)
-absolute_too_wide c u m new e s h r =
-    read_step (absolute_sum u) m m (of_number (pos (nat_abs c))) new (Err SumStop.Wide) (ap (λ (o : Option ℤ). absolute_by o u m) (sym e)) s (number_wide (pos (nat_abs c)) (wide (has_128_bits (pos (nat_abs c))) refl))
-  where
-    wide : (b : Bool) → has_128_bits (pos (nat_abs c)) ≡ b → has_128_bits (pos (nat_abs c)) ≡ false
-    wide true f = absurd (h (record { sfits = grind (arith, ints, f, r) }))
-    wide false f = f
-
-pub no_absolute_number : (u : Sum) (m : Made) (new : Making) (r : Result Sum SumStop) → None ≡ constant_of u → ShowsReading (then (side_absolute u) step) m new r → ShowsReading (then (absolute_sum u) step) m new r
-no_absolute_number u m new r e s = reading_as (then (absolute_sum u) step) (then (side_absolute u) step) m m new r (ap (λ (o : Option ℤ). after (absolute_by o u m) step) (sym e)) s

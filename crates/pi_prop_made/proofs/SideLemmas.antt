@@ -81,9 +81,6 @@ apart_refused n u limit s b f e = (λ i. refusal_by (length-apart n u s b i) (no
 
 -- ---- sides
 
-pub is_side : (u : Sum) (m : Made) (n : ℕ) (new : Making) → Some n ≡ variable_of u → Shows new m → Reads (side u) m n new
-is_side u m n new e s = record { made = m; is = (λ i. side_by (sym e i) u m); shown = s }
-
 pub new_side : (u : Sum) (m : Made) (n : ℕ) (new : Making) → None ≡ variable_of u → n ≡ m.unused → Shows new (with_constraint (with_variable m) (linear Rel.Equal (difference (of_variable n) u))) → Reads (side u) m n new
 new_side u m n new e is s = record {
   made = with_constraint (with_variable m) (linear Rel.Equal (difference (of_variable n) u));

@@ -1,14 +1,14 @@
 -- Sums that stand so to 0, by their terms.
-use Rattle.std.specs.Prelude.{◌≡◌, ◌≢◌, ℕ, zero, suc, ◌==◌, nat_lt, Bool, true, false, cond, List, [], ◌∷◌, length, Option, Some, None, Ok, ℤ, pos, negsuc, ◌+ℤ◌, refl}
+use Rattle.std.specs.Prelude.{◌≡◌, ◌≢◌, ℕ, suc, ◌==◌, nat_lt, Bool, true, cond, List, [], ◌∷◌, length, Option, Some, None, Ok, ℤ, pos, negsuc, ◌+ℤ◌, refl}
 use Rattle.std.proofs.Common.{arith, tests, ◌∙◌, ap, sym, subst}
 use Rattle.pi_constraints.specs.declared.constraint.Rel.{Rel}
 use Rattle.pi_constraints.specs.declared.constraint.Item.{Item}
 use Rattle.pi_constraints.specs.declared.constraint.Constraint.{Constraint}
 use Rattle.pi_prop_spec.specs.PostingSums.{Sum, in_front, with_term, with_terms, scaled_terms, Ascend}
-use Rattle.pi_prop_spec.specs.Steps.{Made, gives, after, posting}
-use Rattle.pi_prop_spec.specs.Limits.{are_narrow, are_values, refusal_by, refusal_of}
-use Rattle.pi_prop_spec.specs.Relations.{stands, posts_never, posts_by_terms, posts_standing}
-use Rattle.pi_prop_spec.specs.Truths.{bit, truth_variable_is, new_truth, truth_by_terms, truth_of_standing}
+use Rattle.pi_prop_spec.specs.Steps.{Made}
+use Rattle.pi_prop_spec.specs.Limits.{are_narrow, are_values, refusal_of}
+use Rattle.pi_prop_spec.specs.Relations.{stands, posts_never, posts_standing}
+use Rattle.pi_prop_spec.specs.Truths.{bit, truth_variable_is, new_truth, truth_of_standing}
 use Rattle.pi_prop_made.specs.declared.to_zero.ToZero.{ToZero}
 use Rattle.pi_prop_made.specs.declared.making.Making.{Making}
 use Rattle.pi_prop_made.specs.Making.{sum_refusal, IsNumber, Shows, Reads, with_constraint, with_variable}
@@ -129,13 +129,6 @@ never-made n m new e s = record {
 
 pub new-truth : (n : ℕ) (m : Made) (new : Making) → n ≡ m.unused → Reads (truth_variable_is n) (with_variable m) (Item.Var n) new → Reads new_truth m (Item.Var n) new
 new-truth n m new e r = record { made = r.made; is = ap (λ (j : ℕ). truth_variable_is j (with_variable m)) (sym e) ∙ r.is; shown = r.shown }
-
-pub reified-made : (rel : Rel) (ts : List (ℤ × ℕ)) (k : ℤ) (n : ℕ) (m : Made) (mid new : Making) → (r : Reads new_truth m (Item.Var n) mid) → Shows new (with_constraint r.made (Constraint.Reified (Item.Var n) rel ts k)) → Reads (reified_by rel ts k) m (Item.Var n) new
-reified-made rel ts k n m mid new r s = record {
-  made = with_constraint r.made (Constraint.Reified (Item.Var n) rel ts k);
-  is = ap (λ o. after o (λ (x : Item). posting (Constraint.Reified x rel ts k) (gives x))) r.is;
-  shown = s;
-}
 
 -- a truth variable has no limit of its own
 pub reified-refusal : (rel : Rel) (ts : List (ℤ × ℕ)) (k : ℤ) (n : ℕ) → refusal_of (Constraint.Reified (Item.Var n) rel ts k) ≡ sum_refusal ts k

@@ -1,13 +1,12 @@
 -- Sums of joined terms are those that reading defines.
 use Rattle.std.specs.Int.{w128}
 use Rattle.std.specs.Option.{SomeIff}
-use Rattle.std.specs.Ordering.{int_eq}
-use Rattle.std.specs.Prelude.{◌≡◌, ◌≢◌, FitsSigned, cond, ◌==◌, Option, Some, None, ℕ, Bool, true, false, ◌&&◌, List, [], ◌∷◌, Result, Ok, Err, ℤ, pos, negsuc, ◌+ℤ◌, ◌-ℤ◌, ◌*ℤ◌, neg_ℤ, refl}
+use Rattle.std.specs.Prelude.{◌≡◌, ◌≢◌, FitsSigned, cond, ◌==◌, Option, Some, None, ℕ, Bool, true, false, ◌&&◌, List, [], Result, Ok, Err, ℤ, pos, negsuc, ◌+ℤ◌, ◌-ℤ◌, ◌*ℤ◌, neg_ℤ, refl}
 use Rattle.std.proofs.Common.{arith, ◌∙◌, ap, sym, subst}
 use Rattle.std.proofs.lemmas.Int.{ints}
 use Rattle.pi_effects.specs.Range.{has_128_bits}
 use Rattle.pi_prop_spec.specs.PostingSums.{Sum, of_variable, added, scaled, opposite, difference, Ascend, coefficient}
-use Rattle.pi_prop_spec.specs.Steps.{have_128_bits, variable_of_terms}
+use Rattle.pi_prop_spec.specs.Steps.{have_128_bits}
 use Rattle.pi_prop_spec.proofs.CoefficientLemmas.{sums_stay_joined, coefficients_add, coefficients_scale, coefficients_tell_terms}
 use Rattle.pi_prop_made.specs.declared.stop.SumStop.{SumStop}
 use Rattle.pi_prop_made.specs.Changes.{Sets, Joins, IsTimes, ShowsTerms, ShowsAdded}
@@ -160,14 +159,3 @@ variable_refused k old ts z SumStop.Memory none e j = tt
 pub none_joined : (ts : List (ℤ × ℕ)) → ts ≡ [] → Ascend 0 ts × (have_128_bits ts ≡ true)
 unfolding Ascend have_128_bits
 none_joined ts e = subst (λ (us : List (ℤ × ℕ)). Ascend 0 us × (have_128_bits us ≡ true)) (sym e) (tt, refl)
-
--- a constant other than 0
-pub no_variable : (ts : List (ℤ × ℕ)) (k : ℤ) → k ≢ pos 0 → None ≡ variable_of_terms ts k
-no_variable [] k h = refl
-no_variable (t ∷ []) k h = by (int_eq t.0 (pos 1)) (int_eq k (pos 0)) refl
-  where
-    by : (a b : Bool) → int_eq k (pos 0) ≡ b → None ≡ cond (a && b) (Some t.1) None
-    by true true e = absurd (h (grind (arith, ints, e)))
-    by true false e = refl
-    by false b e = refl
-no_variable (t ∷ u ∷ ts) k h = refl

@@ -66,9 +66,6 @@ not_one_term (t ∷ u ∷ ts) h = refl
 pub not_single : (f : Bool) (es : List (ℕ × Coefficient)) (ts : List (ℤ × ℕ)) → terms_of f es ≡ ts → length es ≢ 1 → None ≡ variable_of_terms ts (pos 0)
 not_single f es ts view h = not_one_term ts (λ e. h (sym (length-terms_of f es) ∙ (ap (λ (us : List (ℤ × ℕ)). length us) view ∙ e)))
 
-single_by : Bool → ℕ → Option ℕ
-single_by b k = cond b (Some k) None
-
 pub single_one : (f : Bool) (es : List (ℕ × Coefficient)) (ts : List (ℤ × ℕ)) (k : ℕ) (c : Coefficient) (z : ℤ) → terms_of f es ≡ ts → length es ≡ 1 → slice_get es 0 ≡ Some (k, c) → z ≡ counted f c → (b : Bool) → b ≡ int_eq z (pos 1) →
     cond b (Some k) None ≡ variable_of_terms ts (pos 0)
 unfolding terms_of

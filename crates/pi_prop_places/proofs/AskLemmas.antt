@@ -18,9 +18,6 @@ use Rattle.pi_prop_places.proofs.RoundLemmas.{le_test, test_le}
 
 -- ---- between two numbers
 
-pub none_in_none : (d : List Span) (lo hi : ℤ) → hi <ℤ lo → HasValueBetween d lo hi → ⊥
-none_in_none d lo hi h f = let l : lo ≤ℤ f.0 = f.2 in let m : f.0 ≤ℤ hi = f.3 in omega (arith, ints)
-
 below_point : (ss : List Span) (at : ℕ) (lo : ℤ) (e : Span) → IsPartitionPoint (λ s. ends_below lo s ≡ true) (λ s. ends_below lo s ≡ false) ss at → (k : ℕ) → k < at → (get_or ss k e).hi <ℤ lo
 below_point ss at lo e point k b = let t : int_lt (get_or ss k e).hi lo ≡ true = point.0 k e (omega arith) b in grind (arith, ints)
 

@@ -50,14 +50,6 @@ cut_like ds es k p q same f = record {
 
 -- ---- from a place on
 
-pub cut_from_none : (first : ℕ) (test : ℕ → ℤ → Bool) (ds : List (List Span)) → AreCutFrom first 0 test ds ds
-cut_from_none first test ds = record {
-  count = refl;
-  before = λ j l. refl;
-  cut = λ j n l. absurd (omega arith);
-  behind = λ j l. refl;
-}
-
 still_below : (j i : ℕ) → j < i + 1 → (j ≡ i → ⊥) → j < i
 still_below j i l o = omega arith
 

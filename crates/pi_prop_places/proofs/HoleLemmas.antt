@@ -25,12 +25,6 @@ record IsWithout (n : ℤ) (s : Span) (part : List Span) : Type 0 where
   pub domain : (least : ℤ) (ss : List Span) → AscendFrom least (s ∷ ss) → AscendFrom least (part ++ ss)
   pub values : (least : ℤ) (ss : List Span) (m : ℤ) → AscendFrom least (s ∷ ss) → has_value (part ++ ss) m ≡ (has_value (s ∷ ss) m && not (int_eq m n))
 
-other_than : (m n : ℤ) → m <ℤ n → int_eq m n ≡ false
-other_than m n h = elim (int_eq_is m n) [ inl e ↦ absurd (let same : m ≡ n = e.1 in omega (arith, ints)) | inr e ↦ e.0 ]
-
-above_other : (m n : ℤ) → n <ℤ m → int_eq m n ≡ false
-above_other m n h = elim (int_eq_is m n) [ inl e ↦ absurd (let same : m ≡ n = e.1 in omega (arith, ints)) | inr e ↦ e.0 ]
-
 -- spans behind n don't have it
 rest_without : (least n m : ℤ) (ss : List Span) → AscendFrom least ss → n <ℤ least → has_value ss m ≡ (has_value ss m && not (int_eq m n))
 rest_without least n m ss up h = elim (int_eq_is m n) [

@@ -13,12 +13,6 @@ use Rattle.pi_constraints.proofs.SpanLemmas.{AscendFrom-first, has_value-below, 
 abbrev pub from_to : ℤ → ℤ → Span
 from_to lo hi = record { lo = lo; hi = hi }
 
-none_both : (b c d : Bool) → d ≡ false → (c && d) ≡ (b && d)
-none_both true true d e = refl
-none_both false false d e = refl
-none_both true false d e = sym e
-none_both false true d e = e
-
 -- ---- at the front
 
 -- spans have the values from n on that those had of which they are the rest
@@ -162,13 +156,6 @@ lowered_has ss k e n low high up c at q r lo hi m =
 
 pub lowered_none : (ss : List Span) (k : ℕ) (e : Span) (n : ℤ) → IsDomain ss → k + 1 ≡ length ss → e ≡ get_or ss k e → e.hi ≤ℤ n → (m : ℤ) → has_value ss m ≡ (has_value ss m && int_le m n)
 lowered_none ss k e n up c at h = none_lowered (neg_ℤ MAX_VALUE) n ss k e up c (subst (λ (x : Span). x.hi ≤ℤ n) at h)
-
--- what is left behind the spans that go has the values of all
-same_cut : (b c : Bool) (m n : ℤ) → (n ≤ℤ m → c ≡ b) → (c && int_le n m) ≡ (b && int_le n m)
-same_cut b c m n h = by_lt_z m n (λ l. let out : int_le n m ≡ false = grind (arith, ints) in none_both b c (int_le n m) out) (λ l. ap (λ (x : Bool). x && int_le n m) (h l))
-
-pub below_left : (ss ts us : List Span) (n : ℤ) → SameFrom n ts ss → ((m : ℤ) → has_value us m ≡ (has_value ts m && int_le n m)) → (m : ℤ) → has_value us m ≡ (has_value ss m && int_le n m)
-below_left ss ts us n same cut m = cut m ∙ same_cut (has_value ss m) (has_value ts m) m n (same m)
 
 -- what a turn to the left and a cut leave
 pub turned_off : (ss turned rest left : List Span) (gone count size : ℕ) → count ≡ length ss → size ≡ length ss → gone ≤ length ss → turned ≡ drop gone ss ++ take gone ss → left ≡ take (count - gone) (take size (turned ++ rest)) → left ≡ drop gone ss

@@ -35,9 +35,6 @@ pub open_seen : (ds : List (List Span)) (i : ℕ) (spot : Open) (fixed : Bool) �
 open_seen ds i spot true f s = fixed_more ds i spot (f.0 refl) s
 open_seen ds i spot false f s = open_more ds i spot (λ h. let e : false ≡ true = f.1 h in absurd (cc)) s
 
-pub open_often : (ds : List (List Span)) (i count : ℕ) → i ≤ count → ShowsOpen ds i Open.Often → ShowsOpen ds count Open.Often
-open_often ds i count l s = (s.0, s.1, s.2, omega (arith, s.3), s.4, s.5)
-
 pub fixed_behind : (ds : List (List Span)) (first i : ℕ) (fixed : Bool) → IsTrue fixed ↔ IsFixed (domain_at ds (first + i)) → IsTrue fixed ↔ IsFixed (domain_at (drop first ds) i)
 fixed_behind ds first i fixed f =
     let same : domain_at ds (first + i) ≡ domain_at (drop first ds) i = sym (get_or-drop first ds i []) in

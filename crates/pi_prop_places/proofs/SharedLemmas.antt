@@ -40,10 +40,3 @@ one_more spans others i j e l k low high all m h =
 
 pub all_are : (spans others : List Span) (i : ℕ) → length spans ≤ i → AreValuesOf (take i spans) others → AreValuesOf spans others
 all_are spans others i l h = subst (λ (x : List Span). AreValuesOf x others) (take_all i spans l) h
-
-and_idle : (b c : Bool) → (b ≡ true → c ≡ true) → b ≡ (b && c)
-and_idle true c h = sym (h refl)
-and_idle false c h = refl
-
-pub kept_all : (spans others : List Span) → AreValuesOf spans others → (m : ℤ) → has_value spans m ≡ (has_value spans m && has_value others m)
-kept_all spans others all m = and_idle (has_value spans m) (has_value others m) (all m)

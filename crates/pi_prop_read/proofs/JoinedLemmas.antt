@@ -1,16 +1,16 @@
 -- What joined truths and relations post.
-use Rattle.std.specs.Prelude.{◌≡◌, ⊤, ℕ, suc, ◌≤◌, List, [], ◌∷◌, ◌++◌, Bool, true, false, cond, ℤ, pos, Result, Ok, Err, refl}
-use Rattle.std.proofs.Common.{arith, ◌∙◌, ap, sym, subst}
+use Rattle.std.specs.Prelude.{◌≡◌, ⊤, ℕ, ◌≤◌, List, [], ◌∷◌, ℤ, pos, Result, Ok, Err}
+use Rattle.std.proofs.Common.{arith, ap, subst}
 use Rattle.pi_constraints.specs.declared.constraint.Rel.{Rel}
 use Rattle.pi_constraints.specs.declared.constraint.Item.{Item}
 use Rattle.pi_constraints.specs.declared.constraint.Constraint.{Constraint}
 use Rattle.pi_prop_spec.specs.Operands.{Connective as ConnectiveOf, and, or, either, implies, equivalent}
 use Rattle.pi_prop_spec.specs.PostingSums.{Sum, of_number, of_item, added, difference}
-use Rattle.pi_prop_spec.specs.Steps.{Refusal, Made, Known, Reading, gives, after, then, posting, linear}
+use Rattle.pi_prop_spec.specs.Steps.{Refusal, Made, Known, Reading, gives, after, posting}
 use Rattle.pi_prop_spec.specs.Truths.{truth_variable_is, new_truth, truth_by_terms, truth_of_standing, truth_of_negation, truth_of_joined, posting_at_most}
 use Rattle.pi_prop_made.specs.declared.making.Making.{Making}
 use Rattle.pi_prop_made.specs.Making.{Shows, Reads, with_constraint}
-use Rattle.pi_prop_read.specs.Sums.{apart, two_apart, both_apart, one_of}
+use Rattle.pi_prop_read.specs.Sums.{apart, two_apart, both_apart}
 
 -- three constraints
 abbrev pub with_three : Made → Constraint → Constraint → Constraint → Made
@@ -19,13 +19,6 @@ with_three m a b c = with_constraint (with_constraint (with_constraint m a) b) c
 -- a new truth, and what is posted of it
 behind : (f : Item → Reading Item) (n : ℕ) (m : Made) (mid : Making) → (r : Reads new_truth m (Item.Var n) mid) → after (new_truth m) f ≡ f (Item.Var n) r.made
 behind f n m mid r = ap (λ (o : Result (Known Item) Refusal). after o f) r.is
-
-pub negation-made : (x : Item) (n : ℕ) (m : Made) (mid new : Making) → (r : Reads new_truth m (Item.Var n) mid) → Shows new (with_constraint r.made (one_of (Item.Var n) x)) → Reads (truth_of_negation x) m (Item.Var n) new
-negation-made x n m mid new r s = record {
-  made = with_constraint r.made (one_of (Item.Var n) x);
-  is = behind (λ t. posting (linear Rel.Equal (difference (added (of_item t) (of_item x)) (of_number (pos 1)))) (gives t)) n m mid r;
-  shown = s;
-}
 
 pub both-made : (x y : Item) (n : ℕ) (m : Made) (mid new : Making) → (r : Reads new_truth m (Item.Var n) mid) → Shows new (with_three r.made (apart (Item.Var n) x) (apart (Item.Var n) y) (both_apart x y (Item.Var n))) → Reads (truth_of_joined and x y) m (Item.Var n) new
 both-made x y n m mid new r s = record {

@@ -1,28 +1,24 @@
 -- What a store shows of a term is what it is as an operand.
-use Rattle.std.specs.Prelude.{◌≡◌, ℕ, ◌==◌, ⊤, Bool, true, false, cond, List, codes, Option, refl}
+use Rattle.std.specs.Prelude.{◌≡◌, ℕ, ◌==◌, Bool, true, false, cond, List, codes, refl}
 use Rattle.std.specs.Option.{option_or}
 use Rattle.std.specs.Str.{bytes_eq}
 use Rattle.std.proofs.Common.{arith, tests, eqb-true, ◌∙◌, ap, sym, subst}
 use Rattle.pi_terms.specs.Tree.{Tree, var, int, atom, comp, Trees, no_trees, tree, tree_count, args}
 use Rattle.pi_terms.specs.Substitution.{instance}
-use Rattle.pi_constraints.specs.Value.{Bindings, IsAcyclic}
+use Rattle.pi_constraints.specs.Value.{Bindings}
 use Rattle.pi_constraints.specs.State.{IsState, SpeaksBelow, bindings, next}
-use Rattle.pi_constraints.specs.Store.{Moment, StoreView, IsTerm, ShowsCell}
+use Rattle.pi_constraints.specs.Store.{Moment, StoreView, ShowsCell}
 use Rattle.pi_constraints.specs.declared.store.Ref.{Ref}
 use Rattle.pi_constraints.specs.declared.store.Cell.{Cell}
 use Rattle.pi_constraints.proofs.RootLemmas.{with_values}
-use Rattle.pi_prop_spec.specs.Operands.{Operand, no_operand, Operands}
+use Rattle.pi_prop_spec.specs.Operands.{Operand, no_operand}
 use Rattle.pi_prop_spec.specs.Terms.{one_part, two_parts, operand_of, operands_of_array, operands_of_list}
 use Rattle.pi_prop_read.specs.declared.operands.node.Binary.{Binary}
 use Rattle.pi_prop_read.specs.declared.operands.node.Unary.{Unary}
 use Rattle.pi_prop_read.specs.declared.operands.node.Node.{Node}
 use Rattle.pi_prop_read.specs.Refs.{tree_of, IsThere, value_at, operand_at}
 use Rattle.pi_prop_read.specs.OperandNodes.{node_of_one, node_of_two, operand_by, HasParts, ShowsNode}
-use Rattle.pi_prop_read.proofs.RootLemmas.{root_of, IsArg, Names, variable-root, integer-root, atom-root, compound-root, variable-made, IsCompound, compound-shown, HasOne, has-one, HasTwo, has-two}
-
-pub through : {A B : Type 0} (f : A → B) (b : Bool) (x y : A) → f (cond b x y) ≡ cond b (f x) (f y)
-through f true x y = refl
-through f false x y = refl
+use Rattle.pi_prop_read.proofs.RootLemmas.{root_of, IsArg, Names, variable-root, integer-root, atom-root, compound-root, variable-made, compound-shown, HasOne, has-one, HasTwo, has-two}
 
 pub either_way : {A : Type 0} (P : A → Type 0) (b : Bool) (x y : A) → P x → P y → P (cond b x y)
 either_way P true x y h k = h

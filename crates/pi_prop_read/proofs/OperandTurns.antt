@@ -1,16 +1,15 @@
 -- Each turn comes to the same whole.
-use Rattle.std.specs.Prelude.{◌≡◌, ⊤, ℕ, ◌<◌, ◌≤◌, List, [], ◌∷◌, ◌++◌, Bool, cond, Option, Some, None, option_to_list, Result, Ok, Err, pos, refl}
+use Rattle.std.specs.Prelude.{◌≡◌, ℕ, ◌<◌, ◌≤◌, List, [], ◌∷◌, ◌++◌, Result, Ok, Err, pos, refl}
 use Rattle.std.proofs.Common.{arith, ◌∙◌, ap, sym, subst}
 use Rattle.pi_constraints.specs.State.{next}
 use Rattle.pi_constraints.specs.Store.{Moment}
 use Rattle.pi_constraints.specs.declared.store.Ref.{Ref}
 use Rattle.pi_prop_spec.specs.Operands.{Operand, number, variable, total, no_operand}
 use Rattle.pi_prop_spec.specs.PostingSums.{Sum, of_number, of_variable}
-use Rattle.pi_prop_spec.specs.Steps.{Refusal, not_a_constraint, wide_coefficient, Made, Known, Reading, gives, refuses, after, then, step, have_128_bits, read_operand, read_items}
+use Rattle.pi_prop_spec.specs.Steps.{Refusal, Made, Known, Reading, after, then, step, read_operand}
 use Rattle.pi_prop_made.specs.declared.stop.SumStop.{SumStop}
-use Rattle.pi_prop_made.specs.Steps.{fits, ShowsStep}
 use Rattle.pi_prop_made.specs.declared.making.Making.{Making}
-use Rattle.pi_prop_made.specs.Making.{Shows, Reads, ShowsReading, AllBelow}
+use Rattle.pi_prop_made.specs.Making.{Shows, ShowsReading, AllBelow}
 use Rattle.pi_prop_read.specs.declared.operands.node.Binary.{Binary}
 use Rattle.pi_prop_read.specs.declared.operands.node.Unary.{Unary}
 use Rattle.pi_prop_read.specs.declared.operands.node.Node.{Node}
@@ -18,25 +17,10 @@ use Rattle.pi_prop_read.specs.declared.operands.frames.Frame.{Frame}
 use Rattle.pi_prop_read.specs.declared.operands.frames.Turn.{Turn}
 use Rattle.pi_prop_read.specs.declared.operands.stop.OperandStop.{OperandStop}
 use Rattle.pi_prop_read.specs.Refs.{IsThere, value_at, operand_at, operands_at}
-use Rattle.pi_prop_read.specs.OperandNodes.{unary_of, binary_of, sum_at, operand_by, ShowsNode}
-use Rattle.pi_prop_read.specs.OperandFrames.{combined, changed, come, back, stacked, FrameIs, FramesAre, AreThere, TurnIs, turn_reading, IsAt, IsTurn, HasRead, Refuses, ShowsTurn, turn_of}
+use Rattle.pi_prop_read.specs.OperandNodes.{unary_of, binary_of, sum_at, ShowsNode}
+use Rattle.pi_prop_read.specs.OperandFrames.{combined, changed, come, back, stacked, FrameIs, FramesAre, AreThere, IsAt, IsTurn, HasRead, Refuses, ShowsTurn, turn_of}
 use Rattle.pi_prop_read.proofs.AfterLemmas.{after_after, after_same, back-last, back-stacked}
 use Rattle.pi_prop_read.proofs.BelowLemmas.{below-number, below-variable, below_more, GrownFrom, combined-grows, changed-grows}
-
--- ---- steps
-
-known : Sum → Made → Result (Known Sum) Refusal
-known u m = Ok (record { what = u; made = m })
-
--- a step of a sum that is made where nothing else is
-pub step-shown : (u : Sum) (a : Making) (m : Made) (r : Result Sum SumStop) → Shows a m → ShowsStep r u → ShowsReading (step u) m a r
-step-shown u a m (Ok x) s h = record {
-  made = m;
-  is = ap (λ (b : Bool). cond b (gives u) (refuses wide_coefficient) m) h.1 ∙ ap (λ (v : Sum). Ok (record { what = v; made = m })) (sym h.0);
-  shown = s;
-}
-step-shown u a m (Err SumStop.Wide) s h = ap (λ (b : Bool). cond b (gives u) (refuses wide_coefficient) m) h
-step-shown u a m (Err SumStop.Memory) s h = tt
 
 -- ---- what waits
 
@@ -140,16 +124,6 @@ begin-other w a r fs whole s t = (t.is_here, sym (as-operand w a r (no_operand (
 
 abbrev pub BeginsSum : Moment → Making → Ref → List Frame → Whole → Type 0
 BeginsSum w a q fs whole = IsAt w a (λ n. IsThere w q) (read_operand (sum_at w q)) fs whole
-
-pub begin-sum : (w : Moment) (a : Making) (r q : Ref) (fs : List Frame) (whole : Whole) → ShowsNode w r (Node.Sum q) → IsTurn w a (Turn.Read r) fs whole → BeginsSum w a q fs whole
-begin-sum w a r q fs whole s t = record {
-  made = t.made;
-  shown = t.shown;
-  enough = t.enough;
-  frames = t.frames;
-  is_here = s.parts;
-  goes = as-operand w a r (sum_at w q) fs whole t s.is;
-}
 
 pub begin-items : (w : Moment) (a : Making) (q : Ref) (rs : List Ref) (u : Sum) (fs gs : List Frame) (whole : Whole) → sum_at w q ≡ total (operands_at w rs) → AreThere w rs → gs ≡ fs ++ stacked rs → u ≡ of_number (pos 0) → BeginsSum w a q fs whole → IsTurn w a (Turn.Have u) gs whole
 unfolding read_operand

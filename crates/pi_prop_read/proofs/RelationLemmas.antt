@@ -1,7 +1,6 @@
 -- A relation, by its sides.
-use Rattle.std.specs.Prelude.{◌≡◌, ◌≤◌, Bool, true, false, cond, Result, Ok, Err, refl}
+use Rattle.std.specs.Prelude.{◌≡◌, Bool, true, false, cond, Result, Ok, Err, refl}
 use Rattle.std.proofs.Common.{◌∙◌, ap, sym}
-use Rattle.pi_constraints.specs.State.{next}
 use Rattle.pi_constraints.specs.Store.{Moment}
 use Rattle.pi_constraints.specs.declared.store.Ref.{Ref}
 use Rattle.pi_prop_spec.specs.Operands.{Operand, Comparison as ComparisonOf}
@@ -13,14 +12,10 @@ use Rattle.pi_prop_made.specs.Steps.{fits, ShowsStep}
 use Rattle.pi_prop_made.specs.declared.making.Making.{Making}
 use Rattle.pi_prop_made.specs.declared.to_zero.ToZero.{ToZero}
 use Rattle.pi_prop_made.specs.Making.{Shows}
-use Rattle.pi_prop_made.specs.ToZero.{rel_of, sum_for}
 use Rattle.pi_prop_read.specs.declared.operands.stop.OperandStop.{OperandStop}
 use Rattle.pi_prop_read.specs.OperandFrames.{HasRead, Refuses}
 use Rattle.pi_prop_read.specs.declared.relations.Relation.{Relation}
-use Rattle.pi_prop_read.specs.Relations.{Means, standing_of, HasRelation}
-
-abbrev Whole : Type 0
-Whole = Result (Known Standing) Refusal
+use Rattle.pi_prop_read.specs.Relations.{Means, HasRelation}
 
 -- what is read behind the left side, and behind both
 abbrev behind-both : ComparisonOf → Sum → Sum → Reading Standing

@@ -97,22 +97,6 @@ map_place next (n ∷ ns) d =
 
 -- ---- numbers that are met one after another
 
--- a number keeps its place as more follow
-pub place_in-append : (ks ms : List ℕ) (n : ℕ) → Has ks n → place_in (ks ++ ms) n ≡ place_in ks n
-place_in-append [] ms n h = absurd h
-place_in-append (k ∷ ks) ms n h = elim (cases_Bool (k == n)) [
-  | inl here ↦ place_here k n (ks ++ ms) here ∙ sym (place_here k n ks here)
-  | inr behind ↦ omega (arith, place_behind k n (ks ++ ms) behind, place_behind k n ks behind, place_in-append ks ms n (has_behind k n ks behind h))
-]
-
--- a new one takes the next place
-pub place_in-new : (ks : List ℕ) (n : ℕ) → (Has ks n → ⊥) → place_in (ks ++ n ∷ []) n ≡ length ks
-place_in-new [] n out = place_here n n [] (eq-eqb n n refl)
-place_in-new (k ∷ ks) n out = elim (cases_Bool (k == n)) [
-  | inl here ↦ absurd (out (inl (eqb-true k n here)))
-  | inr behind ↦ omega (arith, place_behind k n (ks ++ n ∷ []) behind, place_in-new ks n (λ h. out (inr h)))
-]
-
 filter_out : (p : ℕ → Bool) (n : ℕ) (ks : List ℕ) → p n ≡ false → filter p (ks ++ n ∷ []) ≡ filter p ks
 filter_out p n [] e = rw e refl
 filter_out p n (k ∷ ks) e = elim (cases_Bool (p k)) [

@@ -71,11 +71,6 @@ known_at cs i (Comp name k size) within is = tt
 
 -- ---- renamed cells
 
-pub one_renamed : (r : ℕ → ℕ) (cs : List TermCell) (i : ℕ) (c : TermCell) → i < length cs → c ≡ get_or cs i c → map (renamed_cell r) (take i cs) ++ renamed_cell r c ∷ [] ≡ map (renamed_cell r) (take (i + 1) cs)
-one_renamed r cs i c within is =
-    sym (map-append (renamed_cell r) (take i cs) (c ∷ []))
-    ∙ ap (map (renamed_cell r)) (ap (λ d. take i cs ++ d ∷ []) is ∙ sym (take_more cs i c within))
-
 mutual
   unfolding flat instance
 

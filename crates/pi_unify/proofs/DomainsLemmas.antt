@@ -29,9 +29,6 @@ use Rattle.pi_unify.specs.Domains.{AreUnbound, HasMet, occurring}
 
 -- ---- the domain of one variable
 
-pub domain-past : (s : State) (n : ℕ) → next s ≤ n → domain_of s n ≡ None
-domain-past s n past = ap domain_in (get_or_past s.variables n free past)
-
 pub domain-found : {M : Type 0} (v : StoreView M) (n : ℕ) (r : Ref) (found : Option (List Span)) → n < next v.now.state → (n < next v.now.state → IsTerm v r (var n)) →
     ((t : Tree) → IsTerm v r t → IsAcyclic (bindings v.now.state) → found ≡ domain_at_root v.now.state (followed (bindings v.now.state) t)) →
     IsAcyclic (bindings v.now.state) → held (bindings v.now.state) n ≡ None → found ≡ domain_of v.now.state n

@@ -17,9 +17,6 @@ keeps_then v w x a b = record {
   names = λ k name h. b.names k name (a.names k name h);
 }
 
-pub changes_then : {M : Type 0} (v w x : StoreView M) (s t : State) → Changes v w s → Changes w x t → Changes v x t
-changes_then v w x s t a b = record { keeps = keeps_then v w x a.keeps b.keeps; state = b.state }
-
 pub stays_then : {M : Type 0} (v w x : StoreView M) (s : State) → Changes v w s → Stays w x → Changes v x s
 stays_then v w x s a b = record { keeps = keeps_then v w x a.keeps b.keeps; state = b.state ∙ a.state }
 

@@ -32,13 +32,6 @@ unfolding tree_count
 puts_atom v w rename u name built made ts here kept term put =
     subst (λ (x : Tree). PutsNode v w rename x built built made ts) (sym here) (record { term = term; rest = terms_kept v w (reverse built) ts kept put })
 
-pub puts_compound : {M : Type 0} (v w : StoreView M) (rename : ℕ → ℕ) (u : Tree) (name : List ℕ) (count : ℕ) (old new : List Ref) (made : Ref) (ts : Trees) → u ≡ comp name (args u) → count ≡ arity u → IsTerm w made (comp name (take_trees count ts)) → AreBuilt w new (drop_trees count ts) → PutsNode v w rename u old new made ts
-puts_compound v w rename u name count old new made ts here many term rest =
-    let P : ℕ → Type 0 = λ k. IsTerm w made (comp name (take_trees k ts)) × AreBuilt w new (drop_trees k ts) in
-    let both : IsTerm w made (comp name (take_trees (arity u) ts)) × AreBuilt w new (drop_trees (arity u) ts) = subst P many (term, rest) in
-    let whole : PutsNode v w rename (comp name (args u)) old new made ts = record { term = both.0; rest = both.1 } in
-    subst (λ (x : Tree). PutsNode v w rename x old new made ts) (sym here) whole
-
 -- ---- the whole
 
 next-with : (k : ℕ) (s : State) → next (with_variables k s) ≡ next s + k
