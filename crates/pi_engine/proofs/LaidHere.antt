@@ -20,7 +20,7 @@ use Rattle.pi_engine_code.specs.declared.code.Code.{Code}
 use Rattle.pi_engine_code.specs.Code.{Tables, node_kind, step_cell, operand_tree, operand_trees, arguments}
 use Rattle.pi_engine_stands.specs.Here.{Block, AreReadable, NodeIsReadable, SaysLast, SayLast, LastOfAll, EachLast, IsHere, IsValueHere}
 use Rattle.pi_engine_stands.specs.Stands.{HasNumber}
-use Rattle.pi_engine_code.specs.Laid.{tables_for, IsNamed, IsNotBuiltIn, IsUnknown, IsEffectOf, IsNodeOf, OperandsAt, Marked, mark, marked, marked_seq, marked_each, IsStepFor, StepsAt, IsLaid, IsValueLaid, IsResolved, AreResolved}
+use Rattle.pi_engine_code.specs.Laid.{tables_for, IsNamed, IsNotBuiltIn, IsUnknown, IsEffectOf, IsNodeOf, OperandsAt, Marked, mark, marked, marked_seq, marked_each, IsStepFor, StepsAt, IsLaid, IsValueLaid, IsResolved, AreResolved, layout}
 use Rattle.pi_lib_builtin.specs.Resolved.{IsFunctionNamed}
 use Rattle.pi_engine_code.proofs.LaidGoals.{goals-in, length-marked}
 use Rattle.pi_engine_stands.proofs.ReadsHere.{drop-got, got-index, operand-reads, operands-read, operand-readable, operands-within, operands-readable}
@@ -153,7 +153,7 @@ node-readable ps terms code b k (Node.CallTerm first arity) is below =
 
 -- ---- steps
 
-steps-cells : (ps : List CorePred) (terms : Terms) (code : Code) (steps : List Step) (first slots at : ℕ) (hs : List Marked) → StepsAt ps (tables_for ps terms code) steps first slots at hs →
+steps-cells : (ps : List CorePred) (terms : Terms) (code : Code) (steps : List Step) (first slots at : ℕ) (hs : List Marked) → StepsAt (layout ps (tables_for ps terms code) steps first slots) at hs →
     ((i : ℕ) (h : Marked) → slice_get hs i ≡ Some h → IsUnknown ps (kind_of h.it) → ⊥) → take (length hs) (map (step_cell (tables_for ps terms code)) (drop at steps)) ≡ map (λ h. cell_of h.it) hs
 unfolding StepsAt step_cell
 steps-cells ps terms code steps first slots at [] are known = refl
@@ -172,7 +172,7 @@ record StepGot (ps : List CorePred) (t : Tables) (first slots : ℕ) (hs : List 
 same-step : (s r : Step) (o : Option Step) → o ≡ Some s → o ≡ Some r → s ≡ r
 same-step s r o a b = cc
 
-step-got : (ps : List CorePred) (t : Tables) (steps : List Step) (first slots at : ℕ) (hs : List Marked) (i : ℕ) (s : Step) → StepsAt ps t steps first slots at hs → i < length hs → slice_get steps (at + i) ≡ Some s → StepGot ps t first slots hs i s
+step-got : (ps : List CorePred) (t : Tables) (steps : List Step) (first slots at : ℕ) (hs : List Marked) (i : ℕ) (s : Step) → StepsAt (layout ps t steps first slots) at hs → i < length hs → slice_get steps (at + i) ≡ Some s → StepGot ps t first slots hs i s
 unfolding StepsAt
 step-got ps t steps first slots at [] i s are within here = absurd (omega arith)
 step-got ps t steps first slots at (h ∷ hs) zero s (f, rest) within here =
@@ -181,29 +181,29 @@ step-got ps t steps first slots at (h ∷ hs) (suc i) s (f, rest) within here =
     let r : StepGot ps t first slots hs i s = step-got ps t steps first slots (suc at) hs i s rest (omega arith) (ap (slice_get steps) (omega arith) ∙ here) in
     record { h = r.h; is = r.is; step = r.step }
 
-steps-front : (ps : List CorePred) (t : Tables) (steps : List Step) (first slots at : ℕ) (xs ys : List Marked) → StepsAt ps t steps first slots at (xs ++ ys) → StepsAt ps t steps first slots at xs
+steps-front : (ps : List CorePred) (t : Tables) (steps : List Step) (first slots at : ℕ) (xs ys : List Marked) → StepsAt (layout ps t steps first slots) at (xs ++ ys) → StepsAt (layout ps t steps first slots) at xs
 unfolding StepsAt
 steps-front ps t steps first slots at [] ys are = tt
 steps-front ps t steps first slots at (x ∷ xs) ys (f, rest) = (f, steps-front ps t steps first slots (suc at) xs ys rest)
 
-steps-behind : (ps : List CorePred) (t : Tables) (steps : List Step) (first slots at n : ℕ) (xs ys : List Marked) → StepsAt ps t steps first slots at (xs ++ ys) → n ≡ at + length xs → StepsAt ps t steps first slots n ys
+steps-behind : (ps : List CorePred) (t : Tables) (steps : List Step) (first slots at n : ℕ) (xs ys : List Marked) → StepsAt (layout ps t steps first slots) at (xs ++ ys) → n ≡ at + length xs → StepsAt (layout ps t steps first slots) n ys
 unfolding StepsAt
-steps-behind ps t steps first slots at n [] ys are e = subst (λ k. StepsAt ps t steps first slots k ys) (omega (arith, e)) are
+steps-behind ps t steps first slots at n [] ys are e = subst (λ k. StepsAt (layout ps t steps first slots) k ys) (omega (arith, e)) are
 steps-behind ps t steps first slots at n (x ∷ xs) ys (f, rest) e = steps-behind ps t steps first slots (suc at) n xs ys rest (omega (arith, e))
 
 -- ---- marks
 
-says-one : (ps : List CorePred) (t : Tables) (steps : List Step) (first slots at : ℕ) (h : Marked) (hs : List Marked) → StepsAt ps t steps first slots at (h ∷ hs) → SaysLast steps at h.last
+says-one : (ps : List CorePred) (t : Tables) (steps : List Step) (first slots at : ℕ) (h : Marked) (hs : List Marked) → StepsAt (layout ps t steps first slots) at (h ∷ hs) → SaysLast steps at h.last
 unfolding StepsAt
 says-one ps t steps first slots at h hs (f, rest) s here = subst (λ r. r.is_last ≡ h.last) (same-step f.0 s (slice_get steps at) f.1 here) f.2.last
 
-says-rest : (ps : List CorePred) (t : Tables) (steps : List Step) (first slots at : ℕ) (h : Marked) (hs : List Marked) → StepsAt ps t steps first slots at (h ∷ hs) → StepsAt ps t steps first slots (at + 1) hs
+says-rest : (ps : List CorePred) (t : Tables) (steps : List Step) (first slots at : ℕ) (h : Marked) (hs : List Marked) → StepsAt (layout ps t steps first slots) at (h ∷ hs) → StepsAt (layout ps t steps first slots) (at + 1) hs
 says-rest ps t steps first slots at h hs are = steps-behind ps t steps first slots at (at + 1) (h ∷ []) hs are (omega arith)
 
 mutual
   unfolding SayLast marked
 
-  say : (ps : List CorePred) (t : Tables) (steps : List Step) (first slots at : ℕ) (g : GoalTree) (last : Bool) → StepsAt ps t steps first slots at (marked g last) → SayLast steps at g last
+  say : (ps : List CorePred) (t : Tables) (steps : List Step) (first slots at : ℕ) (g : GoalTree) (last : Bool) → StepsAt (layout ps t steps first slots) at (marked g last) → SayLast steps at g last
   say ps t steps first slots at truth last are = says-one ps t steps first slots at (mark truth last) [] are
   say ps t steps first slots at fail last are = says-one ps t steps first slots at (mark fail last) [] are
   say ps t steps first slots at tick last are = says-one ps t steps first slots at (mark tick last) [] are
@@ -218,9 +218,9 @@ mutual
     say-each ps t steps first slots (at + 1) gs last (says-rest ps t steps first slots at (mark (alternatives gs) last) (marked_each gs last) are),
   )
   say ps t steps first slots at (if_else test g other) last are =
-      let rest : StepsAt ps t steps first slots (at + 1) (marked test false ++ (marked g last ++ marked other last)) =
+      let rest : StepsAt (layout ps t steps first slots) (at + 1) (marked test false ++ (marked g last ++ marked other last)) =
       says-rest ps t steps first slots at (mark (if_else test g other) last) (marked test false ++ (marked g last ++ marked other last)) are in
-      let then : StepsAt ps t steps first slots (at + 1 + nodes test) (marked g last ++ marked other last) =
+      let then : StepsAt (layout ps t steps first slots) (at + 1 + nodes test) (marked g last ++ marked other last) =
       steps-behind ps t steps first slots (at + 1) (at + 1 + nodes test) (marked test false) (marked g last ++ marked other last) rest (omega (arith, length-marked test false)) in (
         says-one ps t steps first slots at (mark (if_else test g other) last) (marked test false ++ (marked g last ++ marked other last)) are,
         say ps t steps first slots (at + 1) test false (steps-front ps t steps first slots (at + 1) (marked test false) (marked g last ++ marked other last) rest),
@@ -241,14 +241,14 @@ mutual
     say ps t steps first slots (at + 1) g false (says-rest ps t steps first slots at (mark (count g into) last) (marked g false) are),
   )
   say ps t steps first slots at (catch g ball handler) last are =
-      let rest : StepsAt ps t steps first slots (at + 1) (marked g false ++ marked handler last) = says-rest ps t steps first slots at (mark (catch g ball handler) last) (marked g false ++ marked handler last) are in (
+      let rest : StepsAt (layout ps t steps first slots) (at + 1) (marked g false ++ marked handler last) = says-rest ps t steps first slots at (mark (catch g ball handler) last) (marked g false ++ marked handler last) are in (
         says-one ps t steps first slots at (mark (catch g ball handler) last) (marked g false ++ marked handler last) are,
         say ps t steps first slots (at + 1) g false (steps-front ps t steps first slots (at + 1) (marked g false) (marked handler last) rest),
         say ps t steps first slots (at + 1 + nodes g) handler last
             (steps-behind ps t steps first slots (at + 1) (at + 1 + nodes g) (marked g false) (marked handler last) rest (omega (arith, length-marked g false))),
       )
 
-  say-seq : (ps : List CorePred) (t : Tables) (steps : List Step) (first slots at : ℕ) (gs : GoalTrees) (last : Bool) → StepsAt ps t steps first slots at (marked_seq gs last) → LastOfAll steps at gs last
+  say-seq : (ps : List CorePred) (t : Tables) (steps : List Step) (first slots at : ℕ) (gs : GoalTrees) (last : Bool) → StepsAt (layout ps t steps first slots) at (marked_seq gs last) → LastOfAll steps at gs last
   say-seq ps t steps first slots at no_goals last are = tt
   say-seq ps t steps first slots at (goal g no_goals) last are = say ps t steps first slots at g last are
   say-seq ps t steps first slots at (goal g (goal h hs)) last are = (
@@ -257,7 +257,7 @@ mutual
         (steps-behind ps t steps first slots at (at + nodes g) (marked g false) (marked_seq (goal h hs) last) are (omega (arith, length-marked g false))),
   )
 
-  say-each : (ps : List CorePred) (t : Tables) (steps : List Step) (first slots at : ℕ) (gs : GoalTrees) (last : Bool) → StepsAt ps t steps first slots at (marked_each gs last) → EachLast steps at gs last
+  say-each : (ps : List CorePred) (t : Tables) (steps : List Step) (first slots at : ℕ) (gs : GoalTrees) (last : Bool) → StepsAt (layout ps t steps first slots) at (marked_each gs last) → EachLast steps at gs last
   say-each ps t steps first slots at no_goals last are = tt
   say-each ps t steps first slots at (goal g gs) last are = (
     say ps t steps first slots at g last (steps-front ps t steps first slots at (marked g last) (marked_each gs last) are),
@@ -277,7 +277,7 @@ goal-at g last i h at =
     ap (λ r. slice_get r i) (sym (goals-in g last)) ∙ slice_get-map (λ x. x.it) (marked g last) i ∙ ap (option_map (λ x. x.it)) at in
     (i, slice_get_within (subgoals g) i h.it there, get_or_from_slice_get (subgoals g) i h.it h.it there)
 
-pub goal-here : (ps : List CorePred) (terms : Terms) (code : Code) (b : Block) (at : ℕ) (g : GoalTree) (last : Bool) → IsLaid ps (tables_for ps terms code) code.steps.items b.first b.count at g last → CallsDefined (map pred_tree ps) g → SlotsBelow b.count g →
+pub goal-here : (ps : List CorePred) (terms : Terms) (code : Code) (b : Block) (at : ℕ) (g : GoalTree) (last : Bool) → IsLaid (layout ps (tables_for ps terms code) code.steps.items b.first b.count) at g last → CallsDefined (map pred_tree ps) g → SlotsBelow b.count g →
     IsHere (tables_for ps terms code) code.steps.items b at g last
 unfolding flat
 goal-here ps terms code b at g last laid known below =

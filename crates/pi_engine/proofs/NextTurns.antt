@@ -24,7 +24,7 @@ use Rattle.pi_engine_stands.specs.Stands.{World, Loaded}
 use Rattle.pi_engine_stands.specs.Views.{Fits}
 use Rattle.pi_engine.specs.Seen.{MachineView, told_end, end_in, stopped}
 use Rattle.pi_engine.specs.Happens.{IsBuiltSoFar, IsRepeated}
-use Rattle.pi_engine.specs.Turns.{StepIs, IsRunning, NextComes, IsAnswered, RepeatsEnd, Lasts}
+use Rattle.pi_engine.specs.Turns.{StepIs, IsRunning, NextComes, IsAnswered, RepeatsEnd, Lasts, with_budget}
 use Rattle.pi_engine_stands.proofs.GoalsGo.{none-counted}
 use Rattle.pi_meaning.proofs.Machine.LeadLemmas.{leads-none}
 use Rattle.pi_engine.proofs.TurnsGo.{more-goes, answer-goes, told-goes}
@@ -140,7 +140,7 @@ raised-in : {R M : Type 0} (f : R → MachineView M) (stop : R → R) (ball : Tr
 raised-in f stop ball old new h stops (inl same) = inl (same.0, ap f same.1)
 raised-in f stop ball old new h stops (inr told) = inr (told.0, ap f told.1 ∙ stops)
 
-repeated-in : {R M : Type 0} (f : R → MachineView M) (stop : R → R) (e : RunEnd) (old new : R) (b c : Budget) (h : Happening) → f (stop old) ≡ stopped (f old) → RepeatsEnd stop e old new b c h → IsRepeated (told_end e) (f old) (f new) b c h
+repeated-in : {R M : Type 0} (f : R → MachineView M) (stop : R → R) (e : RunEnd) (old new : R) (b c : Budget) (h : Happening) → f (stop old) ≡ stopped (f old) → RepeatsEnd stop e (with_budget old b) (with_budget new c) h → IsRepeated (told_end e) (f old) (f new) b c h
 repeated-in f stop RunEnd.Done old new b c h stops is = (is.0, ap f is.1, is.2)
 repeated-in f stop (RunEnd.Raised ball) old new b c h stops is = (raised-in f stop ball old new h stops is.0, is.1)
 repeated-in f stop RunEnd.StepsSpent old new b c h stops is = (is.0, ap f is.1, is.2)
@@ -152,7 +152,7 @@ one-end x y same = cc
 
 -- where it is at an end that is told so
 pub repeated-as : {R M : Type 0} (f : R → MachineView M) (stop : R → R) (old new : R) (b c : Budget) (end h : Happening) → f (stop old) ≡ stopped (f old) → (now : Now) → end_in now ≡ Some end →
-    ((e : RunEnd) → now ≡ Now.Ended e → RepeatsEnd stop e old new b c h) → IsRepeated end (f old) (f new) b c h
+    ((e : RunEnd) → now ≡ Now.Ended e → RepeatsEnd stop e (with_budget old b) (with_budget new c) h) → IsRepeated end (f old) (f new) b c h
 repeated-as f stop old new b c end h stops (Now.Going p) at repeats = absurd cc
 repeated-as f stop old new b c end h stops (Now.Telling told) at repeats = absurd cc
 repeated-as f stop old new b c end h stops Now.Failing at repeats = absurd cc

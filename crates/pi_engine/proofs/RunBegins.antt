@@ -21,8 +21,8 @@ use Rattle.pi_engine_stands.specs.Here.{Block, AreHeld, IsHere, last_here, answe
 use Rattle.pi_meaning.specs.Machine.Shape.{open_level}
 use Rattle.pi_meaning.specs.Machine.Configuration.{config, going}
 use Rattle.pi_engine_stands.specs.Stands.{Loaded, tables_in, steps_of, world, IsCodeOf, no_entries, Stands, NowIs, going_now}
-use Rattle.pi_engine_code.specs.LaidRules.{IsFilled}
-use Rattle.pi_engine.specs.Begins.{asked, loaded_with, Begins}
+use Rattle.pi_engine_code.specs.LaidRules.{IsFilled, in_tables}
+use Rattle.pi_engine.specs.Begins.{asked, loaded_with, Begins, begun}
 use Rattle.pi_engine_arenas.specs.Blocks.{BlocksView}
 use Rattle.pi_engine.proofs.LaidHere.{goal-here}
 use Rattle.pi_engine.proofs.LaidCode.{code-stands}
@@ -80,11 +80,11 @@ run-begins l v order trail place g code empty same here =
 
 -- the run of a query whose tables are filled
 pub query-begins : {M : Type 0} (order : M → ℕ) (u v : StoreView M) (code : Code) (place : ℕ) (trail : List Written) (core helpers : List CorePred) (g : GoalTree) (names : List NameSlot) (slots : ℕ) → u.now.state ≡ empty_state → Stays u v →
-    preds_of code ≡ core ++ helpers → (IsAcyclic (bindings u.now.state) → IsFilled (preds_of code) (tables_of v.now.terms code) v.names code g slots place) → IsSoundQuery (map pred_tree core) (asked g helpers names slots) → QueryCallsDefined (map pred_tree core) (asked g helpers names slots) → NamesAreFree (map pred_tree core ++ map pred_tree helpers) →
-    Begins order code v (fresh slots trail) (Now.Going (record { place = place; count = 1; base = 0; frame = 0 })) (map pred_tree core) (asked g helpers names slots)
+    preds_of code ≡ core ++ helpers → (IsAcyclic (bindings u.now.state) → IsFilled (in_tables (preds_of code) (tables_of v.now.terms code) v.names code) g slots place) → IsSoundQuery (map pred_tree core) (asked g helpers names slots) → QueryCallsDefined (map pred_tree core) (asked g helpers names slots) → NamesAreFree (map pred_tree core ++ map pred_tree helpers) →
+    Begins code (begun v order (fresh slots trail) (Now.Going (record { place = place; count = 1; base = 0; frame = 0 }))) (map pred_tree core) (asked g helpers names slots)
 query-begins order u v code place trail core helpers g names slots empty stays source filled sound calls free =
     let preds : map pred_tree (preds_of code) ≡ map pred_tree core ++ map pred_tree helpers = ap (map pred_tree) source ∙ map-append pred_tree core helpers in
-    let is_filled : IsFilled (preds_of code) (tables_of v.now.terms code) v.names code g slots place = filled (subst (λ s. IsAcyclic (bindings s)) (sym empty) empty-is-state.acyclic) in
+    let is_filled : IsFilled (in_tables (preds_of code) (tables_of v.now.terms code) v.names code) g slots place = filled (subst (λ s. IsAcyclic (bindings s)) (sym empty) empty-is-state.acyclic) in
     let is_code : IsCodeOf code (tables_of v.now.terms code) v.names (map pred_tree core ++ map pred_tree helpers) =
     subst (IsCodeOf code (tables_of v.now.terms code) v.names) preds (code-stands v.now.terms v.names code g slots place is_filled (subst IsSound (sym preds) sound.preds) (subst ProgramCallsDefined (sym preds) calls.preds) (subst NamesAreFree (sym preds) free)) in
     run-begins (loaded_with code v (map pred_tree core ++ map pred_tree helpers) slots) v order trail place g is_code (stays.state ∙ empty) refl
@@ -120,10 +120,10 @@ arenas-fresh {M} a b slots none filled kept =
 
 -- a run whose arenas were empty, and got the query's slots
 pub run-begun : {M : Type 0} (order : M → ℕ) (u v : StoreView M) (a : ArenasView M) (b : BlocksView) (now : Now) (code : Code) (place : ℕ) (core helpers : List CorePred) (g : GoalTree) (names : List NameSlot) (slots : ℕ) → u.now.state ≡ empty_state → Stays u v →
-    preds_of code ≡ core ++ helpers → (IsAcyclic (bindings u.now.state) → IsFilled (preds_of code) (tables_of v.now.terms code) v.names code g slots place) → IsSoundQuery (map pred_tree core) (asked g helpers names slots) → QueryCallsDefined (map pred_tree core) (asked g helpers names slots) → NamesAreFree (map pred_tree core ++ map pred_tree helpers) → a ≡ no_arenas →
+    preds_of code ≡ core ++ helpers → (IsAcyclic (bindings u.now.state) → IsFilled (in_tables (preds_of code) (tables_of v.now.terms code) v.names code) g slots place) → IsSoundQuery (map pred_tree core) (asked g helpers names slots) → QueryCallsDefined (map pred_tree core) (asked g helpers names slots) → NamesAreFree (map pred_tree core ++ map pred_tree helpers) → a ≡ no_arenas →
     b.slots ≡ a.blocks.slots ++ replicate slots None → b.kept ≡ a.blocks.kept → now ≡ Now.Going (record { place = place; count = 1; base = 0; frame = 0 }) →
-    Begins order code v (record { frames = a.frames; blocks = b; entries = a.entries; level = a.level; collected = a.collected }) now (map pred_tree core) (asked g helpers names slots)
+    Begins code (begun v order (record { frames = a.frames; blocks = b; entries = a.entries; level = a.level; collected = a.collected }) now) (map pred_tree core) (asked g helpers names slots)
 run-begun {M} order u v a b now code place core helpers g names slots empty stays source filled sound calls free none pushed kept going_is =
-    subst (λ (n : Now). Begins order code v (record { frames = a.frames; blocks = b; entries = a.entries; level = a.level; collected = a.collected }) n (map pred_tree core) (asked g helpers names slots)) (sym going_is)
-    (subst (λ (x : ArenasView M). Begins order code v x (Now.Going (record { place = place; count = 1; base = 0; frame = 0 })) (map pred_tree core) (asked g helpers names slots)) (sym (arenas-fresh a b slots none pushed kept))
+    subst (λ (n : Now). Begins code (begun v order (record { frames = a.frames; blocks = b; entries = a.entries; level = a.level; collected = a.collected }) n) (map pred_tree core) (asked g helpers names slots)) (sym going_is)
+    (subst (λ (x : ArenasView M). Begins code (begun v order x (Now.Going (record { place = place; count = 1; base = 0; frame = 0 }))) (map pred_tree core) (asked g helpers names slots)) (sym (arenas-fresh a b slots none pushed kept))
     (query-begins order u v code place b.trail core helpers g names slots empty stays source filled sound calls free))

@@ -18,7 +18,7 @@ use Rattle.pi_engine_arenas.specs.declared.run.End.{End as RunEnd}
 use Rattle.pi_engine_arenas.specs.declared.run.Now.{Now}
 use Rattle.pi_engine_arenas.specs.Arenas.{ArenasView}
 use Rattle.pi_engine_stands.specs.Answers.{AreNames}
-use Rattle.pi_engine.specs.Begins.{Begins}
+use Rattle.pi_engine.specs.Begins.{Begins, begun}
 use Rattle.pi_meaning.specs.Machine.Built.{AreOfRules}
 use Rattle.pi_meaning.specs.Machine.Configuration.{Config}
 use Rattle.pi_meaning.specs.Machine.Budget.{AreStepsUsed, IsWorkUsed, IsInner}
@@ -242,7 +242,7 @@ stands-there v names mode w Now.Failing c stands = stands
 stands-there v names mode w (Now.Raising ball) c stands = stands
 stands-there v names mode w (Now.Ended e) c stands = no-end w e c.now (HasComeTo v names mode w (Now.Ended e) c) stands.runs
 
-pub new-runs : {M : Type 0} (v : View) (m : MachineView M) (program : List PredTree) (q : QueryTree) → Fits m.mode v → m.names ≡ q.names → IsSoundQuery program q → AreOfRules (program ++ q.helpers) → Begins m.order m.code m.store m.arenas m.now program q → RunsTo v m program q []
+pub new-runs : {M : Type 0} (v : View) (m : MachineView M) (program : List PredTree) (q : QueryTree) → Fits m.mode v → m.names ≡ q.names → IsSoundQuery program q → AreOfRules (program ++ q.helpers) → Begins m.code (begun m.store m.order m.arenas m.now) program q → RunsTo v m program q []
 new-runs v m program q view names sound rules begins =
     let none : Leads v (program ++ q.helpers) q.names [] (start q) (start q) = leads-none v (program ++ q.helpers) q.names (start q) in
     record {

@@ -14,7 +14,7 @@ use Rattle.pi_meaning.specs.Machine.Next.{some_ticks}
 use Rattle.pi_engine_stands.specs.Goes.{counted}
 use Rattle.pi_engine.specs.Seen.{MachineView, mode_of}
 use Rattle.pi_engine.specs.Runs.{RunsTo}
-use Rattle.pi_engine.specs.Happens.{AreTicksAndLoads, AreCutOff, Adds, Comes, ComesByTicks, StopsBefore, Happens, HappensByTicks}
+use Rattle.pi_engine.specs.Happens.{AreTicksAndLoads, AreCutOff, Adds, Comes, ComesByTicks, StopsBefore, Happens, HappensByTicks, course}
 use Rattle.pi_engine.proofs.RunsTold.{count-some, count-added}
 
 ticks-kinds : (k : ℕ) → AreTicksAndLoads (some_ticks k)
@@ -51,7 +51,7 @@ stops-at v program q events k m is runs =
     record { next = subst (λ n. IsRunUnder (whole v no_later (program ++ q.helpers)) program q n (record { events = events ++ some_ticks k; stop = Spent })) (sym (count-added events k)) is; runs = runs }
 
 ticks-come : {M : Type 0} (v : View) (program : List PredTree) (q : QueryTree) (events : List (Emitted Solution)) (k : ℕ) (after : MachineView M) (new : Budget) (h : Happening) →
-    ComesByTicks v program q events k after new h → Comes v program q (events ++ some_ticks k) after new h
+    ComesByTicks (course v program q) events k after new h → Comes (course v program q) (events ++ some_ticks k) after new h
 ticks-come v program q events k after new (Happening.Answer a) it =
     (it.0, it.1, subst (λ es. RunsTo v after program q es) (sym (append_assoc events (some_ticks k) (answered it.0 ∷ []))) it.2)
 ticks-come v program q events k after new (Happening.Out text) it = subst (λ es. RunsTo v after program q es) (sym (append_assoc events (some_ticks k) (noted (Out text) ∷ []))) it

@@ -22,7 +22,7 @@ use Rattle.pi_meaning.specs.Machine.Built.{AreOfRules}
 use Rattle.pi_meaning.specs.Machine.Configuration.{Frame, Config, config, going, telling, failed, raising, Now as NowData}
 use Rattle.pi_engine_stands.specs.Fails.{IsEnded, ComesTo, Fails}
 use Rattle.pi_engine_stands.specs.Raises.{Raises}
-use Rattle.pi_engine_stands.specs.Goes.{counted, IsAt, Goes, IsSpent, TicksOn, IsIn}
+use Rattle.pi_engine_stands.specs.Goes.{counted, IsAt, Goes, IsSpent, TicksOn, IsIn, counting}
 use Rattle.pi_meaning.specs.Machine.Leads.{Leads}
 use Rattle.pi_meaning.specs.Machine.Next.{Tells, some_ticks}
 use Rattle.pi_meaning.specs.Machine.Shape.{IsGood}
@@ -32,6 +32,7 @@ use Rattle.pi_engine.specs.Turns.{StepIs, StepStops}
 use Rattle.pi_engine_stands.proofs.GoalsGo.{is-at, none-counted, unspent, silent-goes}
 use Rattle.pi_meaning.proofs.Machine.LeadLemmas.{leads-none, leads-on, step-ends, step-writes, good-writing}
 use Rattle.pi_engine_stands.proofs.PointsDone.{GoesSilently}
+use Rattle.pi_engine_stands.specs.Changes.{change}
 
 -- ---- no further answer, and exceptions
 
@@ -120,7 +121,7 @@ told-is w v names mode b told c is =
     record { is = subst (λ k. Goes v names (some_ticks k ++ noted (Out told.value.text) ∷ []) w (Now.Going told.value.point) c) (sym (none-counted mode b b refl)) goes; spent = tt }
 
 -- a step that stops for want of memory, and counts no Tick
-pub stops-there : {M : Type 0} (v : View) (names : List NameSlot) (mode : Mode) (b : Budget) (w : World M) (c : Config) → IsGood c → StepStops v names mode b b w c
+pub stops-there : {M : Type 0} (v : View) (names : List NameSlot) (mode : Mode) (b : Budget) (w : World M) (c : Config) → IsGood c → StepStops v names (counting mode b b) w c
 stops-there v names mode b w c good =
     more-is v names mode b w (Now.Ended RunEnd.Memory) c (record { comes = c; leads = leads-none v w.loaded.preds names c; good = good; is = tt }) tt
 
@@ -135,7 +136,7 @@ fails-step : (v : View) (preds : List PredTree) (names : List NameSlot) (c : Con
 unfolding step
 fails-step v preds names c is = ap (λ x. step v preds names (config x c.stack)) is
 
-pub fails-is : {M : Type 0} (w after : World M) (v : View) (names : List NameSlot) (mode : Mode) (b : Budget) (now : Now) (c : Config) → w.loaded ≡ after.loaded → IsIn v names w Now.Failing c → Fails w after now → StepIs v names mode b b after now c CodeOutcome.More
+pub fails-is : {M : Type 0} (w after : World M) (v : View) (names : List NameSlot) (mode : Mode) (b : Budget) (now : Now) (c : Config) → w.loaded ≡ after.loaded → IsIn v names w Now.Failing c → Fails (change w after now) → StepIs v names mode b b after now c CodeOutcome.More
 fails-is w after v names mode b now c same is fails =
     let to : ComesTo after now (fail_step c.stack) = fails c.stack is.is.entries in
     more-is v names mode b after now c
@@ -153,7 +154,7 @@ raises-step : (v : View) (preds : List PredTree) (names : List NameSlot) (c : Co
 unfolding step
 raises-step v preds names c ball is = ap (λ x. step v preds names (config x c.stack)) is
 
-pub raises-is : {M : Type 0} (w after : World M) (v : View) (names : List NameSlot) (mode : Mode) (b : Budget) (old now : Now) (ball : Tree) (c : Config) → w.loaded ≡ after.loaded → old ≡ Now.Raising ball → IsIn v names w old c → Raises w after old now → StepIs v names mode b b after now c CodeOutcome.More
+pub raises-is : {M : Type 0} (w after : World M) (v : View) (names : List NameSlot) (mode : Mode) (b : Budget) (old now : Now) (ball : Tree) (c : Config) → w.loaded ≡ after.loaded → old ≡ Now.Raising ball → IsIn v names w old c → Raises old (change w after now) → StepIs v names mode b b after now c CodeOutcome.More
 raises-is w after v names mode b old now ball c same raised is raises =
     let stands : Stands w (Now.Raising ball) c = subst (λ n. IsAt v names w n c) raised is.is in
     let to : ComesTo after now (raise_step ball c.stack) = raises ball c.stack raised stands.entries is.good.balanced in

@@ -19,6 +19,16 @@ asked goal helpers names slots = record { goal = goal; helpers = map pred_tree h
 abbrev pub loaded_with : {M : Type 0} → Code → StoreView M → List PredTree → ℕ → Loaded
 loaded_with code v preds slots = record { code = code; terms = v.now.terms; preds = preds; query_slots = slots }
 
--- a run stands for what the meaning of a query starts from
-abbrev pub Begins : {M : Type 0} → (M → ℕ) → Code → StoreView M → ArenasView M → Now → List PredTree → QueryTree → Type 0
-Begins order code v a now program q = Stands (world (loaded_with code v (program ++ q.helpers) q.slots) v order a) now (start q)
+-- a run: the store and the order of its marks, the arenas, and what is next
+pub record Begun (M : Type 0) : Type 0 where
+  pub store : StoreView M
+  pub order : M → ℕ
+  pub arenas : ArenasView M
+  pub now : Now
+
+abbrev pub begun : {M : Type 0} → StoreView M → (M → ℕ) → ArenasView M → Now → Begun M
+begun v order a now = record { store = v; order = order; arenas = a; now = now }
+
+-- a run of tables stands for what the meaning of a query starts from
+abbrev pub Begins : {M : Type 0} → Code → Begun M → List PredTree → QueryTree → Type 0
+Begins code run program q = Stands (world (loaded_with code run.store (program ++ q.helpers) q.slots) run.store run.order run.arenas) run.now (start q)

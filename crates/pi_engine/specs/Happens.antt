@@ -63,44 +63,53 @@ pub record StopsBefore {M : Type 0} (v : View) (program : List PredTree) (q : Qu
   pub next : StandsBefore v program q events n
   pub runs : RunsTo v m program q events
 
+-- what runs: the view under which it does, the program and the query
+pub record Course : Type 0 where
+  pub view : View
+  pub program : List PredTree
+  pub query : QueryTree
+
+abbrev pub course : View → List PredTree → QueryTree → Course
+course v program q = record { view = v; program = program; query = q }
+
 -- What comes behind these events, by what the call answers. Want of memory is no part of a trace: the events begin each run all
 -- the same.
-abbrev pub Comes : {M : Type 0} → View → List PredTree → QueryTree → List (Emitted Solution) → MachineView M → Budget → Happening → Type 0
-Comes v program q events after new (Happening.Answer a) = (x : Solution) × Tells q.names x a × RunsTo v after program q (events ++ answered x ∷ [])
-Comes v program q events after new (Happening.Out text) = RunsTo v after program q (events ++ noted (Out text) ∷ [])
-Comes v program q events after new (Happening.NeedPlan call) = Needs v program q events after (asked_for call)
-Comes v program q events after new Happening.Done = EndsWith v program q events Done × RunsTo v after program q events
-Comes v program q events after new (Happening.Raised ball) = (e : End) × IsException ball e × EndsWith v program q events e × RunsTo v after program q events
-Comes v program q events after new Happening.StepsSpent = StopsBefore v program q events after Tick × (mode_of after ≡ Mode.Top) × AreStepsUsed new
-Comes v program q events after new Happening.WorkSpent = (n : Note) × IsWork (mode_of after) n × StopsBefore v program q events after n × IsWorkUsed new
-Comes v program q events after new Happening.Memory = RunsTo v after program q events
+abbrev pub Comes : {M : Type 0} → Course → List (Emitted Solution) → MachineView M → Budget → Happening → Type 0
+Comes x events after new (Happening.Answer a) = (y : Solution) × Tells x.query.names y a × RunsTo x.view after x.program x.query (events ++ answered y ∷ [])
+Comes x events after new (Happening.Out text) = RunsTo x.view after x.program x.query (events ++ noted (Out text) ∷ [])
+Comes x events after new (Happening.NeedPlan call) = Needs x.view x.program x.query events after (asked_for call)
+Comes x events after new Happening.Done = EndsWith x.view x.program x.query events Done × RunsTo x.view after x.program x.query events
+Comes x events after new (Happening.Raised ball) = (e : End) × IsException ball e × EndsWith x.view x.program x.query events e × RunsTo x.view after x.program x.query events
+Comes x events after new Happening.StepsSpent = StopsBefore x.view x.program x.query events after Tick × (mode_of after ≡ Mode.Top) × AreStepsUsed new
+Comes x events after new Happening.WorkSpent = (n : Note) × IsWork (mode_of after) n × StopsBefore x.view x.program x.query events after n × IsWorkUsed new
+Comes x events after new Happening.Memory = RunsTo x.view after x.program x.query events
 
 -- What a call of `next` comes to that repeats no end, where the run had these events before.
 pub record Happens {M : Type 0} (v : View) (program : List PredTree) (q : QueryTree) (events : List (Emitted Solution)) (before after : MachineView M) (old new : Budget) (happening : Happening) : Type 0 where
   pub notes : List (Emitted Solution)
   pub adds : Adds (mode_of before) old new happening notes
-  pub comes : Comes v program q (events ++ notes) after new happening
+  pub comes : Comes (course v program q) (events ++ notes) after new happening
 
 -- ---- what comes so far
 
 -- With what is built so far there are no loads, and each exception is one that a `catch` would have caught: a call adds the
 -- Ticks that it counts alone, k of them, and stops in front of a Tick alone.
-abbrev pub ComesByTicks : {M : Type 0} → View → List PredTree → QueryTree → List (Emitted Solution) → ℕ → MachineView M → Budget → Happening → Type 0
-ComesByTicks v program q events k after new (Happening.Answer a) = (x : Solution) × Tells q.names x a × RunsTo v after program q (events ++ (some_ticks k ++ answered x ∷ []))
-ComesByTicks v program q events k after new (Happening.Out text) = RunsTo v after program q (events ++ (some_ticks k ++ noted (Out text) ∷ []))
-ComesByTicks v program q events k after new (Happening.NeedPlan call) = ⊥
-ComesByTicks v program q events k after new Happening.Done = EndsWith v program q (events ++ some_ticks k) Done × RunsTo v after program q (events ++ some_ticks k)
-ComesByTicks v program q events k after new (Happening.Raised ball) = EndsWith v program q (events ++ some_ticks k) (Raise ball) × RunsTo v after program q (events ++ some_ticks k)
-ComesByTicks v program q events k after new Happening.StepsSpent =
-    IsRunUnder (whole v no_later (program ++ q.helpers)) program q (count_ticks events + k) (record { events = events ++ some_ticks k; stop = Spent }) × RunsTo v after program q (events ++ some_ticks k)
+abbrev pub ComesByTicks : {M : Type 0} → Course → List (Emitted Solution) → ℕ → MachineView M → Budget → Happening → Type 0
+ComesByTicks x events k after new (Happening.Answer a) = (y : Solution) × Tells x.query.names y a × RunsTo x.view after x.program x.query (events ++ (some_ticks k ++ answered y ∷ []))
+ComesByTicks x events k after new (Happening.Out text) = RunsTo x.view after x.program x.query (events ++ (some_ticks k ++ noted (Out text) ∷ []))
+ComesByTicks x events k after new (Happening.NeedPlan call) = ⊥
+ComesByTicks x events k after new Happening.Done = EndsWith x.view x.program x.query (events ++ some_ticks k) Done × RunsTo x.view after x.program x.query (events ++ some_ticks k)
+ComesByTicks x events k after new (Happening.Raised ball) = EndsWith x.view x.program x.query (events ++ some_ticks k) (Raise ball) × RunsTo x.view after x.program x.query (events ++ some_ticks k)
+ComesByTicks x events k after new Happening.StepsSpent =
+    IsRunUnder (whole x.view no_later (x.program ++ x.query.helpers)) x.program x.query (count_ticks events + k) (record { events = events ++ some_ticks k; stop = Spent }) × RunsTo x.view after x.program x.query (events ++ some_ticks k)
     × (mode_of after ≡ Mode.Top) × AreStepsUsed new
-ComesByTicks v program q events k after new Happening.WorkSpent =
-    IsRunUnder (whole v no_later (program ++ q.helpers)) program q (count_ticks events + k) (record { events = events ++ some_ticks k; stop = Spent }) × RunsTo v after program q (events ++ some_ticks k)
+ComesByTicks x events k after new Happening.WorkSpent =
+    IsRunUnder (whole x.view no_later (x.program ++ x.query.helpers)) x.program x.query (count_ticks events + k) (record { events = events ++ some_ticks k; stop = Spent }) × RunsTo x.view after x.program x.query (events ++ some_ticks k)
     × IsInner (mode_of after) × IsWorkUsed new
-ComesByTicks v program q events k after new Happening.Memory = RunsTo v after program q (events ++ some_ticks k)
+ComesByTicks x events k after new Happening.Memory = RunsTo x.view after x.program x.query (events ++ some_ticks k)
 
 abbrev pub HappensByTicks : {M : Type 0} → View → List PredTree → QueryTree → List (Emitted Solution) → MachineView M → MachineView M → Budget → Budget → Happening → Type 0
-HappensByTicks v program q events before after old new happening = ComesByTicks v program q events (counted (mode_of before) old new) after new happening
+HappensByTicks v program q events before after old new happening = ComesByTicks (course v program q) events (counted (mode_of before) old new) after new happening
 
 -- there are no needs
 abbrev pub IsBuiltSoFar : Happening → Type 0

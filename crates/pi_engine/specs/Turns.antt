@@ -15,24 +15,24 @@ use Rattle.pi_meaning.specs.Machine.Configuration.{Config}
 use Rattle.pi_meaning.specs.Machine.Shape.{IsGood}
 use Rattle.pi_engine_stands.specs.Stands.{World}
 use Rattle.pi_meaning.specs.Machine.Next.{Tells, some_ticks, NextIs}
-use Rattle.pi_engine_stands.specs.Goes.{counted, IsAt, Goes, IsSpent}
+use Rattle.pi_engine_stands.specs.Goes.{counted, IsAt, Goes, IsSpent, Counting}
 
 -- ---- one step
 
--- a step with these events, and then with its answer or its text, where it has one
-abbrev pub OutcomeIs : {M : Type 0} → View → List NameSlot → List (Emitted Solution) → World M → Now → Config → Outcome → Type 0
-OutcomeIs v names events after now c Outcome.More = Goes v names events after now c
-OutcomeIs v names events after now c (Outcome.Answered a) = (x : Solution) × Tells names x a.value × Goes v names (events ++ answered x ∷ []) after now c
-OutcomeIs v names events after now c (Outcome.Told told) = Goes v names (events ++ noted (Out told.value.text) ∷ []) after now c
+-- a step that goes on with these events, and then with its answer or its text, where it has one
+abbrev pub OutcomeIs : List NameSlot → List (Emitted Solution) → (List (Emitted Solution) → Type 0) → Outcome → Type 0
+OutcomeIs names events goes Outcome.More = goes events
+OutcomeIs names events goes (Outcome.Answered a) = (x : Solution) × Tells names x a.value × goes (events ++ answered x ∷ [])
+OutcomeIs names events goes (Outcome.Told told) = goes (events ++ noted (Out told.value.text) ∷ [])
 
 -- a step, with the Ticks that it counts
 pub record StepIs {M : Type 0} (v : View) (names : List NameSlot) (mode : Mode) (old new : Budget) (after : World M) (now : Now) (c : Config) (outcome : Outcome) : Type 0 where
-  pub is : OutcomeIs v names (some_ticks (counted mode old new)) after now c outcome
+  pub is : OutcomeIs names (some_ticks (counted mode old new)) (λ events. Goes v names events after now c) outcome
   pub spent : IsSpent mode new now
 
 -- a step that stops for want of memory: the Ticks that it counted come next in the run all the same
-abbrev pub StepStops : {M : Type 0} → View → List NameSlot → Mode → Budget → Budget → World M → Config → Type 0
-StepStops v names mode old new before c = StepIs v names mode old new before (Now.Ended RunEnd.Memory) c Outcome.More
+abbrev pub StepStops : {M : Type 0} → View → List NameSlot → Counting → World M → Config → Type 0
+StepStops v names b before c = StepIs v names b.mode b.old b.new before (Now.Ended RunEnd.Memory) c Outcome.More
 
 -- a run that has ended for want of memory, and else is as it was
 abbrev pub stopped_run : {S M : Type 0} → Run S M → Run S M
@@ -78,13 +78,22 @@ Lasts Happening.StepsSpent now = now ≡ Now.Ended RunEnd.StepsSpent
 Lasts Happening.WorkSpent now = now ≡ Now.Ended RunEnd.WorkSpent
 Lasts Happening.Memory now = now ≡ Now.Ended RunEnd.Memory
 
+-- a run and its budget
+pub record Budgeted (R : Type 0) : Type 0 where
+  pub run : R
+  pub budget : Budget
+
+abbrev pub with_budget : {R : Type 0} → R → Budget → Budgeted R
+with_budget run budget = record { run = run; budget = budget }
+
 -- An end is answered again, and nothing changes; `stop` says what a refused copy of a ball comes to.
-abbrev pub RepeatsEnd : {R : Type 0} → (R → R) → RunEnd → R → R → Budget → Budget → Happening → Type 0
-RepeatsEnd stop RunEnd.Done old new b c happening = (happening ≡ Happening.Done) × (new ≡ old) × (c ≡ b)
-RepeatsEnd stop (RunEnd.Raised ball) old new b c happening = (((happening ≡ Happening.Raised ball) × (new ≡ old)) ⊎ ((happening ≡ Happening.Memory) × (new ≡ stop old))) × (c ≡ b)
-RepeatsEnd stop RunEnd.StepsSpent old new b c happening = (happening ≡ Happening.StepsSpent) × (new ≡ old) × (c ≡ b)
-RepeatsEnd stop RunEnd.WorkSpent old new b c happening = (happening ≡ Happening.WorkSpent) × (new ≡ old) × (c ≡ b)
-RepeatsEnd stop RunEnd.Memory old new b c happening = (happening ≡ Happening.Memory) × (new ≡ old) × (c ≡ b)
+abbrev pub RepeatsEnd : {R : Type 0} → (R → R) → RunEnd → Budgeted R → Budgeted R → Happening → Type 0
+RepeatsEnd stop RunEnd.Done old new happening = (happening ≡ Happening.Done) × (new.run ≡ old.run) × (new.budget ≡ old.budget)
+RepeatsEnd stop (RunEnd.Raised ball) old new happening =
+    (((happening ≡ Happening.Raised ball) × (new.run ≡ old.run)) ⊎ ((happening ≡ Happening.Memory) × (new.run ≡ stop old.run))) × (new.budget ≡ old.budget)
+RepeatsEnd stop RunEnd.StepsSpent old new happening = (happening ≡ Happening.StepsSpent) × (new.run ≡ old.run) × (new.budget ≡ old.budget)
+RepeatsEnd stop RunEnd.WorkSpent old new happening = (happening ≡ Happening.WorkSpent) × (new.run ≡ old.run) × (new.budget ≡ old.budget)
+RepeatsEnd stop RunEnd.Memory old new happening = (happening ≡ Happening.Memory) × (new.run ≡ old.run) × (new.budget ≡ old.budget)
 
 -- the ends for whose answer memory may be wanted
 abbrev pub IsRaised : RunEnd → Type 0

@@ -7,7 +7,7 @@ ghost use Rattle.pi_meaning.specs.CoreMeaning.Sound.{IsSoundQuery};
 ghost use Rattle.pi_meaning.specs.CoreMeaning.Defined.{QueryCallsDefined, NamesAreFree};
 ghost use Rattle.pi_core.specs.declared.core_program.NameSlot.{NameSlot};
 ghost use Rattle.pi_engine_arenas.specs.Arenas.{view_of};
-ghost use Rattle.pi_engine.specs.Begins.{asked, Begins};
+ghost use Rattle.pi_engine.specs.Begins.{asked, Begins, begun};
 ghost use Rattle.pi_engine_arenas.specs.Arenas.{no_arenas};
 ghost use Rattle.pi_engine.specs.Turns.{IsRunning};
 
@@ -33,7 +33,7 @@ pub fn begin<'p, S: StateStore>(
         view_of run.old.arenas ≡ no_arenas → IsSoundQuery (program_tree core.now) (asked goal.now helpers names slots) →
         QueryCallsDefined (program_tree core.now) (asked goal.now helpers names slots) →
         NamesAreFree (program_tree core.now ++ (asked goal.now helpers names slots).helpers) →
-        Begins S.order code (S.seen run.new.store) (view_of run.new.arenas) run.new.now (program_tree core.now)
+        Begins code (begun (S.seen run.new.store) S.order (view_of run.new.arenas) run.new.now) (program_tree core.now)
         (asked goal.now helpers names slots)) }
 {
     let (code, place) = build_code(alloc, core, helpers, goal, slots, &mut run.store)?;

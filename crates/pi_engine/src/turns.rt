@@ -8,15 +8,14 @@ ghost use Rattle.pi_meaning.specs.declared.happening.Mode.{Mode};
 ghost use Rattle.pi_engine_arenas.specs.declared.run.End.{End};
 ghost use Rattle.pi_meaning.specs.Machine.Budget.{Counts};
 ghost use Rattle.pi_engine_arenas.specs.Frames.{frame_at};
-ghost use Rattle.pi_engine_arenas.specs.Arenas.{view_of};
 ghost use Rattle.pi_meaning.specs.Machine.Configuration.{Config};
 ghost use Rattle.pi_engine_stands.specs.Answers.{AreNames};
-ghost use Rattle.pi_engine_stands.specs.Stands.{Loaded, world};
 ghost use Rattle.pi_engine_stands.specs.Views.{Fits};
 ghost use Rattle.pi_engine_stands.specs.Makes.{GoesFrom};
-ghost use Rattle.pi_engine_stands.specs.Goes.{IsIn, IsSpent, PointIsDone};
+ghost use Rattle.pi_engine_stands.specs.Goes.{IsIn, PointIsDone, counting};
 ghost use Rattle.pi_engine.specs.Happens.{IsBuiltSoFar};
-ghost use Rattle.pi_engine.specs.Turns.{StepIs, StepStops, stopped_run, NextComes, IsRunning, RunsAfter, IsAnswered, RepeatsEnd, Lasts, IsRaised};
+ghost use Rattle.pi_engine.specs.Turns.{StepIs, StepStops, stopped_run, NextComes, IsRunning, RunsAfter, IsAnswered, RepeatsEnd, Lasts, IsRaised, with_budget};
+ghost use Rattle.pi_engine_stands.specs.Changes.{Changes, ChangesBy};
 
 use pi_constraints::StateStore;
 use pi_core::{Answer, NameSlot};
@@ -45,11 +44,11 @@ pub fn next_happening<S: StateStore>(
     budget: &mut Budget,
 ) -> Happening
     ensures counts { Counts mode budget.old budget.new }
-    ensures comes { (l : Loaded) → l.code ≡ code.now → AreNames l.query_slots names.now → (v : View) → Fits mode v → (c : Config) →
-        IsIn v names.now (world l (S.seen run.old.store) S.order (view_of run.old.arenas)) run.old.now c →
-        NextComes v names.now mode budget.old budget.new
-        (world l (S.seen run.new.store) S.order (view_of run.new.arenas)) run.old.now run.new.now c result }
-    ensures repeats { (e : End) → run.old.now ≡ Now.Ended e → RepeatsEnd stopped_run e run.old run.new budget.old budget.new result }
+    ensures comes { ChangesBy S.seen S.order code.now run.old run.new (λ made. AreNames made.before.loaded.query_slots names.now →
+        (v : View) → Fits mode v → (c : Config) → IsIn v names.now made.before run.old.now c →
+        NextComes v names.now mode budget.old budget.new made.after run.old.now made.now c result) }
+    ensures repeats { (e : End) → run.old.now ≡ Now.Ended e →
+        RepeatsEnd stopped_run e (with_budget run.old budget.old) (with_budget run.new budget.new) result }
     ensures built { IsBuiltSoFar result }
     ensures lasts { Lasts result run.new.now }
 {
@@ -100,14 +99,12 @@ fn step<S: StateStore>(
 ) -> Result<Outcome, AllocError>
     ensures counts { Counts mode budget.old budget.new }
     ensures answered { IfOk result (λ outcome. RunsAfter outcome run.new.now) }
-    ensures is { IfOk result (λ outcome. IsRunning run.old.now → (l : Loaded) → l.code ≡ code.now →
-        AreNames l.query_slots names.now → (v : View) → Fits mode v → (c : Config) →
-        IsIn v names.now (world l (S.seen run.old.store) S.order (view_of run.old.arenas)) run.old.now c →
-        StepIs v names.now mode budget.old budget.new
-        (world l (S.seen run.new.store) S.order (view_of run.new.arenas)) run.new.now c outcome) }
-    ensures stops { IfErr result (λ _. IsRunning run.old.now → (l : Loaded) → l.code ≡ code.now → (v : View) → Fits mode v →
-        (c : Config) → IsIn v names.now (world l (S.seen run.old.store) S.order (view_of run.old.arenas)) run.old.now c →
-        StepStops v names.now mode budget.old budget.new (world l (S.seen run.old.store) S.order (view_of run.old.arenas)) c) }
+    ensures is { IfOk result (λ outcome. IsRunning run.old.now → ChangesBy S.seen S.order code.now run.old run.new (λ made.
+        AreNames made.before.loaded.query_slots names.now → (v : View) → Fits mode v → (c : Config) →
+        IsIn v names.now made.before run.old.now c → StepIs v names.now mode budget.old budget.new made.after made.now c outcome)) }
+    ensures stops { IfErr result (λ _. IsRunning run.old.now → ChangesBy S.seen S.order code.now run.old run.new (λ made.
+        (v : View) → Fits mode v → (c : Config) → IsIn v names.now made.before run.old.now c →
+        StepStops v names.now (counting mode budget.old budget.new) made.before c)) }
 {
     match &run.now {
         Now::Going(at) => {
@@ -162,10 +159,9 @@ fn go_on<S: StateStore>(
     point: Point,
 ) -> Result<Outcome, AllocError>
     ensures answered { IfOk result (λ outcome. RunsAfter outcome run.new.now) }
-    ensures is { IfOk result (λ outcome. (l : Loaded) → l.code ≡ code.now → AreNames l.query_slots names.now →
-        (v : View) (c : Config) → PointIsDone (world l (S.seen run.old.store) S.order (view_of run.old.arenas)) point c →
-        (mode : Mode) (b : Budget) → StepIs v names.now mode b b
-        (world l (S.seen run.new.store) S.order (view_of run.new.arenas)) run.new.now c outcome) }
+    ensures is { IfOk result (λ outcome. ChangesBy S.seen S.order code.now run.old run.new (λ made.
+        AreNames made.before.loaded.query_slots names.now → (v : View) (c : Config) → PointIsDone made.before point c →
+        (mode : Mode) (b : Budget) → StepIs v names.now mode b b made.after made.now c outcome)) }
 {
     if let Some(next) = run.arenas.frames.get(point.frame) {
         follow(run, point, next);
@@ -191,9 +187,8 @@ fn go_on<S: StateStore>(
 /// Goes on with a point's frame, whose goals are done.
 #[inline(always)]
 fn follow<S: StateStore>(run: &mut Run<S>, point: Point, next: Point)
-    ensures { (l : Loaded) → point.count ≡ 0 → frame_at run.old.arenas.frames point.frame ≡ Some next →
-        GoesFrom (world l (S.seen run.old.store) S.order (view_of run.old.arenas))
-        (world l (S.seen run.new.store) S.order (view_of run.new.arenas)) point run.new.now }
+    ensures { Changes S.seen S.order run.old run.new (λ made. point.count ≡ 0 → frame_at run.old.arenas.frames point.frame ≡ Some next →
+        GoesFrom point made) }
 {
     run.now = Now::Going(run.arenas.go_on(point, next));
 }

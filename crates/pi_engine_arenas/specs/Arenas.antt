@@ -78,11 +78,31 @@ pushed a mark slots base frame kind = record {
 abbrev pub opened : {M : Type 0} → ArenasView M → ArenasView M
 opened a = record { frames = a.frames; blocks = a.blocks; entries = a.entries; level = length a.entries; collected = a.collected }
 
+-- what a step changes of a run: the store, as it is seen, and the arenas, each as it is before the step and then
+pub record Between (M : Type 0) : Type 0 where
+  pub store : StoreView M
+  pub store_then : StoreView M
+  pub arenas : ArenasView M
+  pub arenas_then : ArenasView M
+
+abbrev pub between : {M : Type 0} → StoreView M → StoreView M → ArenasView M → ArenasView M → Between M
+between v w a b = record { store = v; store_then = w; arenas = a; arenas_then = b }
+
+-- what an entry is to keep: the first so many slots, where the block begins, the frame behind it, and what it waits for
+pub record Keeping : Type 0 where
+  pub slots : ℕ
+  pub base : ℕ
+  pub frame : ℕ
+  pub kind : Kind
+
+abbrev pub keeping : ℕ → ℕ → ℕ → Kind → Keeping
+keeping slots base frame kind = record { slots = slots; base = base; frame = frame; kind = kind }
+
 -- a store and arenas with one more entry, which comes back to what they have
-pub record PushesEntry {M : Type 0} (order : M → ℕ) (v w : StoreView M) (a b : ArenasView M) (slots base frame : ℕ) (kind : Kind) : Type 0 where
+pub record PushesEntry {M : Type 0} (order : M → ℕ) (x : Between M) (k : Keeping) : Type 0 where
   pub mark : M
-  pub marks : Marks order v w mark
-  pub arenas : b ≡ pushed a mark slots base frame kind
+  pub marks : Marks order x.store x.store_then mark
+  pub arenas : x.arenas_then ≡ pushed x.arenas mark k.slots k.base k.frame k.kind
 
 -- The arenas after a point's frame is gone on with: that frame and those behind it are gone, as far as nothing keeps them, and
 -- so is the point's block, where the frame has another one.
@@ -131,12 +151,12 @@ pub record ComesBack {M : Type 0} (a b : ArenasView M) (back : Back) : Type 0 wh
   pub collected : b.collected ≡ a.collected
 
 -- A store and arenas after the newest entry is come back to.
-pub record ReturnsToNewest {M : Type 0} (order : M → ℕ) (v w : StoreView M) (a b : ArenasView M) (back : Back) : Type 0 where
+pub record ReturnsToNewest {M : Type 0} (order : M → ℕ) (x : Between M) (back : Back) : Type 0 where
   pub entry : Entry M
-  pub newest_is : newest a.entries ≡ Some entry
+  pub newest_is : newest x.arenas.entries ≡ Some entry
   pub back_is : entry.back ≡ back
-  pub comes : ComesBack a b back
-  pub returns : IsGood v entry.mark → Returns order v w entry.mark
+  pub comes : ComesBack x.arenas x.arenas_then back
+  pub returns : IsGood x.store entry.mark → Returns order x.store x.store_then entry.mark
 
 -- The arenas without the newest entry. What is there stays, but for what the entries below don't keep of the writes that were
 -- noted.

@@ -2,6 +2,7 @@
 use Rattle.std.specs.Prelude.{min, ◌≡◌, ℕ, zero, suc, ◌+◌, ◌-◌, ◌≤◌, ◌<◌, ◌^◌, List, [], ◌∷◌, ◌++◌, length, Option, Some, None, slice_get, slice_index_or}
 use Rattle.pi_engine_arenas.specs.declared.frames.Point.{Point}
 use Rattle.pi_engine_code.specs.declared.code.Step.{Step}
+use Rattle.pi_engine_arenas.specs.declared.frames.Call.{Call}
 
 -- the frame with a number, of which 0 is none
 abbrev pub frame_at : List Point → ℕ → Option Point
@@ -42,3 +43,7 @@ pub record PushesBehind (p : Point) (s : Step) (old new : List Point) (n : ℕ) 
 -- numbers of slots have 64 bits; a sum that hasn't stays below
 abbrev pub slot_number : ℕ → ℕ → ℕ
 slot_number first k = min (first + k) 18446744073709551615
+
+-- a call of a predicate, whose block begins at a base, with the frame to go on with
+abbrev pub call_at : ℕ → ℕ → ℕ → Call
+call_at predicate base frame = record { predicate = predicate; base = base; frame = frame }

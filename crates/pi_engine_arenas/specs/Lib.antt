@@ -1,3 +1,4 @@
 pub mod Arenas
 pub mod Blocks
 pub mod Frames
+pub mod Runs

@@ -3,7 +3,7 @@ ghost use Rattle.std.specs.Prelude.{◌≡◌, ◌++◌, ◌∷◌, [], ◌+◌,
 ghost use Rattle.pi_engine_arenas.specs.Blocks.{IsKept, IsOlder, brought_back};
 ghost use Rattle.pi_engine_arenas.specs.Frames.{point_behind, PushesBehind};
 ghost use Rattle.pi_engine_arenas.specs.Arenas.{no_arenas};
-ghost use Rattle.pi_engine_arenas.specs.Arenas.{Entry, entry_at, FollowsFrame, LeavesLevel, Drops, view_of, newest, slots_kept_by, noted_by, with_kind};
+ghost use Rattle.pi_engine_arenas.specs.Arenas.{Entry, entry_at, FollowsFrame, LeavesLevel, view_of, newest, slots_kept_by, noted_by, with_kind};
 
 use crate::blocks::{Blocks, BlocksMark};
 use crate::frames::{Frames, Point};

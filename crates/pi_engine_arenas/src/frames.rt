@@ -17,6 +17,14 @@ pub struct Point {
     pub frame: usize,
 }
 
+/// A call that is made: its predicate, where its block begins, and the frame to go on with.
+#[derive(Clone, Copy)]
+pub struct Call {
+    pub predicate: u32,
+    pub base: usize,
+    pub frame: usize,
+}
+
 /// The points to go on with, by their numbers from 1 on. A contract sees the list of them.
 #[derive(Drop)]
 pub struct Frames {

@@ -8,5 +8,5 @@ mod run;
 
 pub use arenas::{Arenas, Back, Entry, Kind, Strict, behind, behind_level};
 pub use blocks::{Blocks, BlocksMark, Written};
-pub use frames::{Frames, Point};
+pub use frames::{Call, Frames, Point};
 pub use run::{End, Now, Run, Telling};

@@ -10,7 +10,7 @@ use Rattle.pi_core.specs.declared.core_program.CorePred.{CorePred}
 use Rattle.pi_engine_code.specs.declared.code.Node.{Node}
 use Rattle.pi_engine_code.specs.declared.code.Step.{Step}
 use Rattle.pi_engine_code.specs.Code.{Tables}
-use Rattle.pi_engine_code.specs.Laid.{Longer, IsNodeOf, Marked, mark, marked, marked_seq, marked_each, IsStepFor, StepsAt, IsLaid, before_last}
+use Rattle.pi_engine_code.specs.Laid.{Longer, IsNodeOf, Marked, mark, marked, marked_seq, marked_each, IsStepFor, StepsAt, IsLaid, before_last, layout}
 use Rattle.pi_engine_code.proofs.LaidTerms.{Wider, operand-wider, operands-wider}
 
 -- ---- longer tables
@@ -40,20 +40,20 @@ pub step-wider : (preds : List CorePred) (t u : Tables) (first slots : ℕ) (h :
 step-wider preds t u first slots h s wider is =
     record { node = node-wider preds t u (kind_of h.it) s.node wider is.node; size = is.size; first_is = is.first_is; slots_is = is.slots_is; last = is.last }
 
-pub steps-wider : (preds : List CorePred) (t u : Tables) (ss rs : List Step) (first slots at : ℕ) (hs : List Marked) → Wider t u → Longer ss rs → StepsAt preds t ss first slots at hs → StepsAt preds u rs first slots at hs
+pub steps-wider : (preds : List CorePred) (t u : Tables) (ss rs : List Step) (first slots at : ℕ) (hs : List Marked) → Wider t u → Longer ss rs → StepsAt (layout preds t ss first slots) at hs → StepsAt (layout preds u rs first slots) at hs
 unfolding StepsAt
 steps-wider preds t u ss rs first slots at [] wider longer are = are
 steps-wider preds t u ss rs first slots at (h ∷ hs) wider longer (here, rest) =
     ((here.0, longer at here.0 here.1, step-wider preds t u first slots h here.0 wider here.2), steps-wider preds t u ss rs first slots (suc at) hs wider longer rest)
 
-pub laid-wider : (preds : List CorePred) (t u : Tables) (ss rs : List Step) (first slots at : ℕ) (g : GoalTree) (last : Bool) → Wider t u → Longer ss rs → IsLaid preds t ss first slots at g last → IsLaid preds u rs first slots at g last
+pub laid-wider : (preds : List CorePred) (t u : Tables) (ss rs : List Step) (first slots at : ℕ) (g : GoalTree) (last : Bool) → Wider t u → Longer ss rs → IsLaid (layout preds t ss first slots) at g last → IsLaid (layout preds u rs first slots) at g last
 laid-wider preds t u ss rs first slots at g last wider longer is =
     record { steps_are = steps-wider preds t u ss rs first slots at (marked g last) wider longer is.steps_are; fits = is.fits }
 
 -- ---- one more step
 
 pub steps-more : (preds : List CorePred) (t : Tables) (ss : List Step) (first slots at : ℕ) (hs : List Marked) (h : Marked) (s : Step) →
-    StepsAt preds t ss first slots at hs → slice_get ss (at + length hs) ≡ Some s → IsStepFor preds t first slots h s → StepsAt preds t ss first slots at (hs ++ h ∷ [])
+    StepsAt (layout preds t ss first slots) at hs → slice_get ss (at + length hs) ≡ Some s → IsStepFor preds t first slots h s → StepsAt (layout preds t ss first slots) at (hs ++ h ∷ [])
 unfolding StepsAt
 steps-more preds t ss first slots at [] h s are here is = ((s, ap (slice_get ss) (omega arith) ∙ here, is), tt)
 steps-more preds t ss first slots at (x ∷ hs) h s (first_is, rest) here is = (first_is, steps-more preds t ss first slots (suc at) hs h s rest (ap (slice_get ss) (omega arith) ∙ here) is)

@@ -16,8 +16,8 @@ use Rattle.pi_engine_code.specs.declared.code.Code.{Code}
 use Rattle.pi_engine_code.specs.declared.callables.Callables.{Callables}
 use Rattle.pi_engine_code.specs.declared.build.numbers.Numbers.{Numbers}
 use Rattle.pi_engine_code.specs.Numbers.{IsNumbering}
-use Rattle.pi_engine_code.specs.Laid.{Adds, AddsSteps, tables_for, IsLaid, AreResolved}
-use Rattle.pi_engine_code.specs.Callables.{place_in, IsPlaceOf, ArePlaces, HasPlace, AreCallable, AddsPlaces, HasPlaces, AreNamed}
+use Rattle.pi_engine_code.specs.Laid.{Adds, AddsSteps, tables_for, IsLaid, AreResolved, layout}
+use Rattle.pi_engine_code.specs.Callables.{place_in, IsPlaceOf, ArePlaces, HasPlace, AreCallable, AddsPlaces, HasPlaces, AreNamed, placing}
 use Rattle.pi_engine_code.proofs.LaidTables.{steps-none, steps-then}
 use Rattle.pi_engine_code.proofs.LaidRuleLemmas.{laid-then}
 use Rattle.pi_engine_code.proofs.LaidTests.{acyclic-stays}
@@ -43,7 +43,7 @@ place-wider all v w c d i j p adds is =
     }
 
 either-place : {M : Type 0} (all : List CorePred) (w : StoreView M) (d : Code) (number k place i j p : ℕ) (name : List ℕ) (g : GoalTree) (old : Option ℕ) (here : Bool) → ((number == i) && (k == j)) ≡ here → IsName w number name →
-    goal_by_name (map pred_tree all) name k ≡ Some g → IsLaid all (tables_for all w.now.terms d) d.steps.items 0 k place g true → (old ≡ Some p → IsPlaceOf all (tables_for all w.now.terms d) w.names d.steps.items i j p) →
+    goal_by_name (map pred_tree all) name k ≡ Some g → IsLaid (layout all (tables_for all w.now.terms d) d.steps.items 0 k) place g true → (old ≡ Some p → IsPlaceOf all (tables_for all w.now.terms d) w.names d.steps.items i j p) →
     cond here (Some place) old ≡ Some p → IsPlaceOf all (tables_for all w.now.terms d) w.names d.steps.items i j p
 either-place all w d number k place i j p name g old true is named goal_is laid before found =
     let parts : (number == i ≡ true) × (k == j ≡ true) = both (number == i) (k == j) is in
@@ -73,10 +73,10 @@ store-only v w c stays =
     }
 
 pub place-added : {M : Type 0} (all : List CorePred) (u v w : StoreView M) (c d : Code) (m n : Callables) (number place : ℕ) (name : List ℕ) (k : ℕ) (made : GoalTree) → Stays u v → IsName v number name → AddsSteps v w c d →
-    IsLaid all (tables_for all w.now.terms d) d.steps.items 0 k place made true → ((g : GoalTree) → goal_by_name (map pred_tree all) name k ≡ Some g → made ≡ g) → Updated m n number k place → AddsPlaces all u w c d m n name k
+    IsLaid (layout all (tables_for all w.now.terms d) d.steps.items 0 k) place made true → ((g : GoalTree) → goal_by_name (map pred_tree all) name k ≡ Some g → made ≡ g) → Updated m n number k place → AddsPlaces all (placing u c m) (placing w d n) name k
 place-added all u v w c d m n number place name k made first named adds laid is_made updated g goal_is right i j p found =
     either-place all w d number k place i j p name g (place_in m i j) ((number == i) && (k == j)) refl (adds.adds.stays.keeps.names number name named) goal_is
-    (subst (λ h. IsLaid all (tables_for all w.now.terms d) d.steps.items 0 k place h true) (is_made g goal_is) laid)
+    (subst (λ h. IsLaid (layout all (tables_for all w.now.terms d) d.steps.items 0 k) place h true) (is_made g goal_is) laid)
     (λ old. place-wider all v w c d i j p adds.adds (place-wider all u v c c i j p (store-only u v c first) (right i j p old))) (sym (updated i j) ∙ found)
 
 some-place : (b : Bool) (x y : ℕ) → (z : ℕ) × (cond b (Some x) (Some y) ≡ Some z)
@@ -132,7 +132,7 @@ some-of None h = absurd cc
 
 pub places-added : {M : Type 0} (numbers : Numbers) (u v w : StoreView M) (c d e : Code) (names : List (Named ℕ)) (m n : Callables) (i : ℕ) (name : List ℕ) (k : ℕ) → PlacesAdded numbers u v c d names m i → i < length names → (name, k) ≡ get_or names i (name, k) →
     AddsSteps v w d e → ((all : List CorePred) → IsNumbering numbers all → AreResolved all d.steps.items → AreResolved all e.steps.items) →
-    ((all : List CorePred) → IsNumbering numbers all → IsAcyclic (bindings v.now.state) → AddsPlaces all v w d e m n name k) → (IsAcyclic (bindings v.now.state) → HasPlaces v.names w.names m n name k) → PlacesAdded numbers u w c e names n (i + 1)
+    ((all : List CorePred) → IsNumbering numbers all → IsAcyclic (bindings v.now.state) → AddsPlaces all (placing v d m) (placing w e n) name k) → (IsAcyclic (bindings v.now.state) → HasPlaces v.names w.names m n name k) → PlacesAdded numbers u w c e names n (i + 1)
 places-added numbers u v w c d e names m n i name k before within item adds resolved right has =
     record {
       adds = steps-then u v w c d e before.adds adds;

@@ -19,8 +19,8 @@ use Rattle.pi_engine_code.specs.declared.code.Code.{Code}
 use Rattle.pi_engine_code.specs.declared.build.numbers.Numbers.{Numbers}
 use Rattle.pi_engine_code.specs.Code.{Tables}
 use Rattle.pi_engine_code.specs.Numbers.{IsNumbering}
-use Rattle.pi_engine_code.specs.Laid.{Longer, Adds, AddsSteps, tables_for, IsLaid, IsValueLaid, AreResolved}
-use Rattle.pi_engine_code.specs.LaidRules.{AddsRule, AddsRules, TestsAt, IsGuardLaid, IsBodyEnd, IsRuleLaid, RulesAt, IsPredicateLaid, PredicatesAt}
+use Rattle.pi_engine_code.specs.Laid.{Longer, Adds, AddsSteps, tables_for, IsLaid, IsValueLaid, AreResolved, layout}
+use Rattle.pi_engine_code.specs.LaidRules.{AddsRule, AddsRules, TestsAt, IsGuardLaid, IsBodyEnd, IsRuleLaid, RulesAt, IsPredicateLaid, PredicatesAt, in_tables}
 use Rattle.pi_engine_code.proofs.LaidTables.{adds-none, adds-then, longer-pushed}
 use Rattle.pi_engine_code.proofs.LaidTerms.{Wider, wider-added, operand-wider}
 use Rattle.pi_engine_code.proofs.LaidGoals.{laid-wider}
@@ -29,7 +29,7 @@ use Rattle.pi_terms.proofs.ListLemmas.{length-taken}
 
 -- ---- longer tables
 
-pub guard-wider : (all : List CorePred) (t u : Tables) (ss rs : List Step) (first slots : ℕ) (place : Option ℕ) (g : GoalTree) → Wider t u → Longer ss rs → IsGuardLaid all t ss first slots place g → IsGuardLaid all u rs first slots place g
+pub guard-wider : (all : List CorePred) (t u : Tables) (ss rs : List Step) (first slots : ℕ) (place : Option ℕ) (g : GoalTree) → Wider t u → Longer ss rs → IsGuardLaid (layout all t ss first slots) place g → IsGuardLaid (layout all u rs first slots) place g
 guard-wider all t u ss rs first slots None g wider longer is = is
 guard-wider all t u ss rs first slots (Some at) g wider longer is = (is.0, laid-wider all t u ss rs first slots at g false wider longer is.1)
 
@@ -37,15 +37,15 @@ pub value-wider : (t u : Tables) (ss rs : List Step) (first slots at : ℕ) (v :
 value-wider t u ss rs first slots at v wider longer is =
     record { step = is.step; operand = is.operand; stands = longer at is.step is.stands; node = is.node; is_value = operand-wider t u v is.operand wider is.is_value; first_is = is.first_is; slots_is = is.slots_is }
 
-pub end-wider : (t u : Tables) (ss rs : List Step) (first slots at goals : ℕ) (v : Option Tree) → Wider t u → Longer ss rs → IsBodyEnd t ss first slots at goals v → IsBodyEnd u rs first slots at goals v
-end-wider t u ss rs first slots at goals None wider longer is = is
-end-wider t u ss rs first slots at goals (Some v) wider longer is = (is.0, value-wider t u ss rs first slots at v wider longer is.1)
+pub end-wider : (all : List CorePred) (t u : Tables) (ss rs : List Step) (first slots at goals : ℕ) (v : Option Tree) → Wider t u → Longer ss rs → IsBodyEnd (layout all t ss first slots) at goals v → IsBodyEnd (layout all u rs first slots) at goals v
+end-wider all t u ss rs first slots at goals None wider longer is = is
+end-wider all t u ss rs first slots at goals (Some v) wider longer is = (is.0, value-wider t u ss rs first slots at v wider longer is.1)
 
-pub laid-then : {M : Type 0} (all : List CorePred) (v w : StoreView M) (c d : Code) (first slots at : ℕ) (g : GoalTree) (last : Bool) → Adds v w c d → IsLaid all (tables_for all v.now.terms c) c.steps.items first slots at g last → IsLaid all (tables_for all w.now.terms d) d.steps.items first slots at g last
+pub laid-then : {M : Type 0} (all : List CorePred) (v w : StoreView M) (c d : Code) (first slots at : ℕ) (g : GoalTree) (last : Bool) → Adds v w c d → IsLaid (layout all (tables_for all v.now.terms c) c.steps.items first slots) at g last → IsLaid (layout all (tables_for all w.now.terms d) d.steps.items first slots) at g last
 laid-then all v w c d first slots at g last adds is = laid-wider all (tables_for all v.now.terms c) (tables_for all w.now.terms d) c.steps.items d.steps.items first slots at g last (wider-added all v w c d adds) adds.steps is
 
 pub rule-wider : {M : Type 0} (all : List CorePred) (v w : StoreView M) (c d : Code) (pred : PredTree) (k : ClauseTree) (r : Rule) → Adds v w c d →
-    IsRuleLaid all (tables_for all v.now.terms c) v.names c.steps.items c.tests.items pred k r → IsRuleLaid all (tables_for all w.now.terms d) w.names d.steps.items d.tests.items pred k r
+    IsRuleLaid (in_tables all (tables_for all v.now.terms c) v.names c) pred k r → IsRuleLaid (in_tables all (tables_for all w.now.terms d) w.names d) pred k r
 rule-wider all v w c d pred k r adds is =
     let wider : Wider (tables_for all v.now.terms c) (tables_for all w.now.terms d) = wider-added all v w c d adds in
     record {
@@ -54,19 +54,19 @@ rule-wider all v w c d pred k r adds is =
       tests_are = tests-wider v.names w.names c.tests.items d.tests.items r.is_deep r.tests k.head adds.stays.keeps.names adds.tests is.tests_are;
       guard = guard-wider all _ _ c.steps.items d.steps.items pred.arity k.slots r.guard k.guard wider adds.steps is.guard;
       body = laid-wider all _ _ c.steps.items d.steps.items pred.arity k.slots r.body k.body (is_none k.value) wider adds.steps is.body;
-      end = end-wider _ _ c.steps.items d.steps.items pred.arity k.slots (r.body + nodes k.body) r.goals k.value wider adds.steps is.end;
+      end = end-wider all _ _ c.steps.items d.steps.items pred.arity k.slots (r.body + nodes k.body) r.goals k.value wider adds.steps is.end;
     }
 
-pub rules-wider : {M : Type 0} (all : List CorePred) (v w : StoreView M) (c d : Code) (pred : PredTree) (at : ℕ) (ks : List ClauseTree) → Adds v w c d → RulesAt all (tables_for all v.now.terms c) v.names c pred at ks → RulesAt all (tables_for all w.now.terms d) w.names d pred at ks
+pub rules-wider : {M : Type 0} (all : List CorePred) (v w : StoreView M) (c d : Code) (pred : PredTree) (at : ℕ) (ks : List ClauseTree) → Adds v w c d → RulesAt (in_tables all (tables_for all v.now.terms c) v.names c) pred at ks → RulesAt (in_tables all (tables_for all w.now.terms d) w.names d) pred at ks
 unfolding RulesAt
 rules-wider all v w c d pred at [] adds are = are
 rules-wider all v w c d pred at (k ∷ ks) adds (first, rest) =
     ((first.0, adds.rules at first.0 first.1, rule-wider all v w c d pred k first.0 adds first.2), rules-wider all v w c d pred (suc at) ks adds rest)
 
-pub predicate-wider : {M : Type 0} (all : List CorePred) (v w : StoreView M) (c d : Code) (pred : PredTree) (p : Predicate) → Adds v w c d → IsPredicateLaid all (tables_for all v.now.terms c) v.names c pred p → IsPredicateLaid all (tables_for all w.now.terms d) w.names d pred p
+pub predicate-wider : {M : Type 0} (all : List CorePred) (v w : StoreView M) (c d : Code) (pred : PredTree) (p : Predicate) → Adds v w c d → IsPredicateLaid (in_tables all (tables_for all v.now.terms c) v.names c) pred p → IsPredicateLaid (in_tables all (tables_for all w.now.terms d) w.names d) pred p
 predicate-wider all v w c d pred p adds is = record { arity = is.arity; quiet = is.quiet; facts = is.facts; rules = is.rules; each = rules-wider all v w c d pred p.first pred.clauses adds is.each }
 
-pub predicates-wider : {M : Type 0} (all : List CorePred) (v w : StoreView M) (c d : Code) (at : ℕ) (ps : List PredTree) → Adds v w c d → PredicatesAt all (tables_for all v.now.terms c) v.names c at ps → PredicatesAt all (tables_for all w.now.terms d) w.names d at ps
+pub predicates-wider : {M : Type 0} (all : List CorePred) (v w : StoreView M) (c d : Code) (at : ℕ) (ps : List PredTree) → Adds v w c d → PredicatesAt (in_tables all (tables_for all v.now.terms c) v.names c) at ps → PredicatesAt (in_tables all (tables_for all w.now.terms d) w.names d) at ps
 unfolding PredicatesAt
 predicates-wider all v w c d at [] adds are = are
 predicates-wider all v w c d at (p ∷ ps) adds (first, rest) =
@@ -76,9 +76,9 @@ predicates-wider all v w c d at (p ∷ ps) adds (first, rest) =
 
 -- a rule whose tests, condition and body were added one after the other
 pub rule-laid : {M : Type 0} (numbers : Numbers) (all : List CorePred) (u v w x : StoreView M) (b c d e : Code) (pred : PredTree) (k : ClauseTree) (r : Rule) → r.slots ≡ k.slots → r.leaves_others ≡ leaves_others pred.function k →
-    TestsAt v.names c.tests.items r.is_deep r.tests k.head → AddsSteps v w c d → IsGuardLaid all (tables_for all w.now.terms d) d.steps.items pred.arity k.slots r.guard k.guard → AddsSteps w x d e →
-    IsLaid all (tables_for all x.now.terms e) e.steps.items pred.arity k.slots r.body k.body (is_none k.value) → IsBodyEnd (tables_for all x.now.terms e) e.steps.items pred.arity k.slots (r.body + nodes k.body) r.goals k.value →
-    IsRuleLaid all (tables_for all x.now.terms e) x.names e.steps.items e.tests.items pred k r
+    TestsAt v.names c.tests.items r.is_deep r.tests k.head → AddsSteps v w c d → IsGuardLaid (layout all (tables_for all w.now.terms d) d.steps.items pred.arity k.slots) r.guard k.guard → AddsSteps w x d e →
+    IsLaid (layout all (tables_for all x.now.terms e) e.steps.items pred.arity k.slots) r.body k.body (is_none k.value) → IsBodyEnd (layout all (tables_for all x.now.terms e) e.steps.items pred.arity k.slots) (r.body + nodes k.body) r.goals k.value →
+    IsRuleLaid (in_tables all (tables_for all x.now.terms e) x.names e) pred k r
 rule-laid numbers all u v w x b c d e pred k r slots others tests guarding guard bodying body end =
     let on : Adds v x c e = adds-then v w x c d e guarding.adds bodying.adds in
     record {
@@ -90,8 +90,8 @@ rule-laid numbers all u v w x b c d e pred k r slots others tests guarding guard
       end = end;
     }
 
-pub rules-more : (all : List CorePred) (t : Tables) (ns : List (List ℕ)) (code : Code) (pred : PredTree) (at : ℕ) (ks : List ClauseTree) (k : ClauseTree) (r : Rule) → RulesAt all t ns code pred at ks → slice_get code.rules.items (at + length ks) ≡ Some r →
-    IsRuleLaid all t ns code.steps.items code.tests.items pred k r → RulesAt all t ns code pred at (ks ++ k ∷ [])
+pub rules-more : (all : List CorePred) (t : Tables) (ns : List (List ℕ)) (code : Code) (pred : PredTree) (at : ℕ) (ks : List ClauseTree) (k : ClauseTree) (r : Rule) → RulesAt (in_tables all t ns code) pred at ks → slice_get code.rules.items (at + length ks) ≡ Some r →
+    IsRuleLaid (in_tables all t ns code) pred k r → RulesAt (in_tables all t ns code) pred at (ks ++ k ∷ [])
 unfolding RulesAt
 rules-more all t ns code pred at [] k r are here is = ((r, ap (slice_get code.rules.items) (omega arith) ∙ here, is), tt)
 rules-more all t ns code pred at (j ∷ ks) k r (first, rest) here is = (first, rules-more all t ns code pred (suc at) ks k r rest (ap (slice_get code.rules.items) (omega arith) ∙ here) is)
@@ -100,7 +100,7 @@ rules-more all t ns code pred at (j ∷ ks) k r (first, rest) here is = (first, 
 pub record RulesAdded {M : Type 0} (numbers : Numbers) (v w : StoreView M) (c d : Code) (pred : PredTree) (clauses : List CoreClause) (i : ℕ) : Type 0 where
   pub adds : AddsRules v w c d
   pub long : length d.rules.items ≡ length c.rules.items + i
-  pub are : (all : List CorePred) → IsNumbering numbers all → IsAcyclic (bindings v.now.state) → RulesAt all (tables_for all w.now.terms d) w.names d pred (length c.rules.items) (map clause_tree (take i clauses))
+  pub are : (all : List CorePred) → IsNumbering numbers all → IsAcyclic (bindings v.now.state) → RulesAt (in_tables all (tables_for all w.now.terms d) w.names d) pred (length c.rules.items) (map clause_tree (take i clauses))
   pub resolved : (all : List CorePred) → IsNumbering numbers all → AreResolved all c.steps.items → AreResolved all d.steps.items
 
 pub no-rules-added : {M : Type 0} (numbers : Numbers) (v : StoreView M) (c : Code) (pred : PredTree) (clauses : List CoreClause) → RulesAdded numbers v v c c pred clauses 0
@@ -112,7 +112,7 @@ abbrev with_rules : Code → Code → Code
 with_rules d e = record { core = d.core; helpers = d.helpers; steps = d.steps; operands = d.operands; parts = d.parts; names = d.names; tests = d.tests; rules = e.rules; predicates = d.predicates; callables = d.callables; keys = d.keys }
 
 pub rule-added : {M : Type 0} (numbers : Numbers) (v w x : StoreView M) (c d f e : Code) (pred : PredTree) (clauses : List CoreClause) (i : ℕ) (k : CoreClause) (r : Rule) → RulesAdded numbers v w c d pred clauses i → i < length clauses → k ≡ get_or clauses i k →
-    AddsRule w x d f → ((all : List CorePred) → IsNumbering numbers all → IsAcyclic (bindings w.now.state) → IsRuleLaid all (tables_for all x.now.terms f) x.names f.steps.items f.tests.items pred (clause_tree k) r) →
+    AddsRule w x d f → ((all : List CorePred) → IsNumbering numbers all → IsAcyclic (bindings w.now.state) → IsRuleLaid (in_tables all (tables_for all x.now.terms f) x.names f) pred (clause_tree k) r) →
     ((all : List CorePred) → IsNumbering numbers all → AreResolved all d.steps.items → AreResolved all f.steps.items) → e.rules.items ≡ f.rules.items ++ r ∷ [] → RulesAdded numbers v x c (with_rules f e) pred clauses (i + 1)
 rule-added numbers v w x c d f e pred clauses i k r before within item adds laid resolved pushed =
     let after : Code = with_rules f e in
@@ -136,7 +136,7 @@ rule-added numbers v w x c d f e pred clauses i k r before within item adds laid
       adds = record { adds = adds-then v w x c d after before.adds.adds more; predicates = adds.predicates ∙ before.adds.predicates };
       long = ap length pushed ∙ length-append f.rules.items (r ∷ []) ∙ omega (arith, before.long, ap (λ q. length q.items) adds.rules);
       are = λ all numbered acyclic.
-          subst (λ ks. RulesAt all (tables_for all x.now.terms after) x.names after pred (length c.rules.items) ks)
+          subst (λ ks. RulesAt (in_tables all (tables_for all x.now.terms after) x.names after) pred (length c.rules.items) ks)
           (sym (ap (map clause_tree) (take_more clauses i k within ∙ ap (λ y. take i clauses ++ y ∷ []) (sym item)) ∙ map-append clause_tree (take i clauses) (k ∷ [])))
           (rules-more all (tables_for all x.now.terms after) x.names after pred (length c.rules.items) (map clause_tree (take i clauses)) (clause_tree k) r
           (rules-wider all w x d after pred (length c.rules.items) (map clause_tree (take i clauses)) more (before.are all numbered acyclic))
@@ -146,14 +146,14 @@ rule-added numbers v w x c d f e pred clauses i k r before within item adds laid
     }
 
 pub all-rules-added : {M : Type 0} (numbers : Numbers) (v w : StoreView M) (c d : Code) (pred : PredTree) (clauses : List CoreClause) (i : ℕ) → RulesAdded numbers v w c d pred clauses i → length clauses ≤ i → pred.clauses ≡ map clause_tree clauses →
-    (all : List CorePred) → IsNumbering numbers all → IsAcyclic (bindings v.now.state) → RulesAt all (tables_for all w.now.terms d) w.names d pred (length c.rules.items) pred.clauses
+    (all : List CorePred) → IsNumbering numbers all → IsAcyclic (bindings v.now.state) → RulesAt (in_tables all (tables_for all w.now.terms d) w.names d) pred (length c.rules.items) pred.clauses
 all-rules-added numbers v w c d pred clauses i added whole same all numbered acyclic =
-    subst (RulesAt all (tables_for all w.now.terms d) w.names d pred (length c.rules.items)) (ap (map clause_tree) (take_all i clauses whole) ∙ sym same) (added.are all numbered acyclic)
+    subst (RulesAt (in_tables all (tables_for all w.now.terms d) w.names d) pred (length c.rules.items)) (ap (map clause_tree) (take_all i clauses whole) ∙ sym same) (added.are all numbered acyclic)
 
 -- ---- predicates that are added
 
-pub predicates-more : (all : List CorePred) (t : Tables) (ns : List (List ℕ)) (code : Code) (at : ℕ) (ps : List PredTree) (pred : PredTree) (p : Predicate) → PredicatesAt all t ns code at ps → slice_get code.predicates.items (at + length ps) ≡ Some p →
-    IsPredicateLaid all t ns code pred p → PredicatesAt all t ns code at (ps ++ pred ∷ [])
+pub predicates-more : (all : List CorePred) (t : Tables) (ns : List (List ℕ)) (code : Code) (at : ℕ) (ps : List PredTree) (pred : PredTree) (p : Predicate) → PredicatesAt (in_tables all t ns code) at ps → slice_get code.predicates.items (at + length ps) ≡ Some p →
+    IsPredicateLaid (in_tables all t ns code) pred p → PredicatesAt (in_tables all t ns code) at (ps ++ pred ∷ [])
 unfolding PredicatesAt
 predicates-more all t ns code at [] pred p are here is = ((p, ap (slice_get code.predicates.items) (omega arith) ∙ here, is), tt)
 predicates-more all t ns code at (q ∷ ps) pred p (first, rest) here is = (first, predicates-more all t ns code (suc at) ps pred p rest (ap (slice_get code.predicates.items) (omega arith) ∙ here) is)
@@ -161,7 +161,7 @@ predicates-more all t ns code at (q ∷ ps) pred p (first, rest) here is = (firs
 pub record PredicatesAdded {M : Type 0} (numbers : Numbers) (v w : StoreView M) (c d : Code) (preds : List CorePred) (i : ℕ) : Type 0 where
   pub adds : Adds v w c d
   pub long : length d.predicates.items ≡ length c.predicates.items + i
-  pub are : (all : List CorePred) → IsNumbering numbers all → IsAcyclic (bindings v.now.state) → PredicatesAt all (tables_for all w.now.terms d) w.names d (length c.predicates.items) (map pred_tree (take i preds))
+  pub are : (all : List CorePred) → IsNumbering numbers all → IsAcyclic (bindings v.now.state) → PredicatesAt (in_tables all (tables_for all w.now.terms d) w.names d) (length c.predicates.items) (map pred_tree (take i preds))
   pub resolved : (all : List CorePred) → IsNumbering numbers all → AreResolved all c.steps.items → AreResolved all d.steps.items
 
 pub no-predicates-added : {M : Type 0} (numbers : Numbers) (v : StoreView M) (c : Code) (preds : List CorePred) → PredicatesAdded numbers v v c c preds 0
@@ -172,7 +172,7 @@ abbrev with_predicates : Code → Code → Code
 with_predicates d e = record { core = d.core; helpers = d.helpers; steps = d.steps; operands = d.operands; parts = d.parts; names = d.names; tests = d.tests; rules = d.rules; predicates = e.predicates; callables = d.callables; keys = d.keys }
 
 pub predicate-added : {M : Type 0} (numbers : Numbers) (v w x : StoreView M) (c d f e : Code) (preds : List CorePred) (i : ℕ) (q : CorePred) (p : Predicate) → PredicatesAdded numbers v w c d preds i → i < length preds → q ≡ get_or preds i q →
-    AddsRules w x d f → ((all : List CorePred) → IsNumbering numbers all → IsAcyclic (bindings w.now.state) → IsPredicateLaid all (tables_for all x.now.terms f) x.names f (pred_tree q) p) →
+    AddsRules w x d f → ((all : List CorePred) → IsNumbering numbers all → IsAcyclic (bindings w.now.state) → IsPredicateLaid (in_tables all (tables_for all x.now.terms f) x.names f) (pred_tree q) p) →
     ((all : List CorePred) → IsNumbering numbers all → AreResolved all d.steps.items → AreResolved all f.steps.items) → e.predicates.items ≡ f.predicates.items ++ p ∷ [] → PredicatesAdded numbers v x c (with_predicates f e) preds (i + 1)
 predicate-added numbers v w x c d f e preds i q p before within item adds laid resolved pushed =
     let after : Code = with_predicates f e in
@@ -196,7 +196,7 @@ predicate-added numbers v w x c d f e preds i q p before within item adds laid r
       adds = adds-then v w x c d after before.adds more;
       long = ap length pushed ∙ length-append f.predicates.items (p ∷ []) ∙ omega (arith, before.long, ap (λ r. length r.items) adds.predicates);
       are = λ all numbered acyclic.
-          subst (λ ps. PredicatesAt all (tables_for all x.now.terms after) x.names after (length c.predicates.items) ps)
+          subst (λ ps. PredicatesAt (in_tables all (tables_for all x.now.terms after) x.names after) (length c.predicates.items) ps)
           (sym (ap (map pred_tree) (take_more preds i q within ∙ ap (λ y. take i preds ++ y ∷ []) (sym item)) ∙ map-append pred_tree (take i preds) (q ∷ [])))
           (predicates-more all (tables_for all x.now.terms after) x.names after (length c.predicates.items) (map pred_tree (take i preds)) (pred_tree q) p
           (predicates-wider all w x d after (length c.predicates.items) (map pred_tree (take i preds)) more (before.are all numbered acyclic))
@@ -206,6 +206,6 @@ predicate-added numbers v w x c d f e preds i q p before within item adds laid r
     }
 
 pub all-predicates-added : {M : Type 0} (numbers : Numbers) (v w : StoreView M) (c d : Code) (preds : List CorePred) (i : ℕ) → PredicatesAdded numbers v w c d preds i → length preds ≤ i →
-    (all : List CorePred) → IsNumbering numbers all → IsAcyclic (bindings v.now.state) → PredicatesAt all (tables_for all w.now.terms d) w.names d (length c.predicates.items) (map pred_tree preds)
+    (all : List CorePred) → IsNumbering numbers all → IsAcyclic (bindings v.now.state) → PredicatesAt (in_tables all (tables_for all w.now.terms d) w.names d) (length c.predicates.items) (map pred_tree preds)
 all-predicates-added numbers v w c d preds i added whole all numbered acyclic =
-    subst (PredicatesAt all (tables_for all w.now.terms d) w.names d (length c.predicates.items)) (ap (map pred_tree) (take_all i preds whole)) (added.are all numbered acyclic)
+    subst (PredicatesAt (in_tables all (tables_for all w.now.terms d) w.names d) (length c.predicates.items)) (ap (map pred_tree) (take_all i preds whole)) (added.are all numbered acyclic)

@@ -17,7 +17,7 @@ use Rattle.pi_engine_code.specs.declared.code.Code.{Code}
 use Rattle.pi_engine_code.specs.declared.build.numbers.Numbers.{Numbers}
 use Rattle.pi_engine_code.specs.Numbers.{IsNumbering}
 use Rattle.pi_engine_code.specs.Code.{Tables}
-use Rattle.pi_engine_code.specs.Laid.{IsNodeOf, Marked, mark, marked, IsStepFor, StepsAt, before_last, IsResolved, AreResolved, AddsOperands, AddsSteps, tables_for}
+use Rattle.pi_engine_code.specs.Laid.{IsNodeOf, Marked, mark, marked, IsStepFor, StepsAt, before_last, IsResolved, AreResolved, AddsOperands, AddsSteps, tables_for, layout}
 use Rattle.pi_engine_code.proofs.LaidTables.{longer-pushed, adds-then, steps-none, steps-then, steps-by-operands}
 use Rattle.pi_engine_code.proofs.LaidTerms.{wider-added}
 use Rattle.pi_engine_code.proofs.LaidGoals.{node-wider, steps-wider, steps-more, below, marked_all, marked_all-append, marked-root, goals-in, length-marked, stacked, stacked-append, shown-kind, stacked-shown}
@@ -33,7 +33,7 @@ pub record StepsAdded {M : Type 0} (numbers : Numbers) (v w : StoreView M) (c d 
   pub whole : written ++ marked_all ahead ≡ marked g last
   pub counted : length written ≡ i
   pub stack : marks ≡ stacked ahead
-  pub are : (preds : List CorePred) → IsNumbering numbers preds → StepsAt preds (tables_for preds w.now.terms d) d.steps.items first slots (length c.steps.items) written
+  pub are : (preds : List CorePred) → IsNumbering numbers preds → StepsAt (layout preds (tables_for preds w.now.terms d) d.steps.items first slots) (length c.steps.items) written
   pub resolved : (preds : List CorePred) → IsNumbering numbers preds → AreResolved preds c.steps.items → AreResolved preds d.steps.items
 
 pub no-steps-added : {M : Type 0} (numbers : Numbers) (v : StoreView M) (c : Code) (first slots : ℕ) (g : GoalTree) (last : Bool) (marks : List Bool) → marks ≡ last ∷ [] → StepsAdded numbers v v c c first slots g last marks 0
@@ -189,7 +189,7 @@ none-left : (xs : List Marked) (ahead ys : List Marked) → xs ++ marked_all ahe
 none-left xs ahead ys e same = sym (take-append_seam xs (marked_all ahead)) ∙ ap (take (length xs)) e ∙ take_all (length xs) ys (omega (arith, same))
 
 pub all-steps-added : {M : Type 0} (numbers : Numbers) (v w : StoreView M) (c d : Code) (first slots : ℕ) (g : GoalTree) (last : Bool) (marks : List Bool) (i : ℕ) → StepsAdded numbers v w c d first slots g last marks i → i ≡ nodes g →
-    (preds : List CorePred) → IsNumbering numbers preds → StepsAt preds (tables_for preds w.now.terms d) d.steps.items first slots (length c.steps.items) (marked g last)
+    (preds : List CorePred) → IsNumbering numbers preds → StepsAt (layout preds (tables_for preds w.now.terms d) d.steps.items first slots) (length c.steps.items) (marked g last)
 all-steps-added numbers v w c d first slots g last marks i added e preds numbered =
-    subst (StepsAt preds (tables_for preds w.now.terms d) d.steps.items first slots (length c.steps.items))
+    subst (StepsAt (layout preds (tables_for preds w.now.terms d) d.steps.items first slots) (length c.steps.items))
     (none-left added.written added.ahead (marked g last) added.whole (omega (arith, added.counted, e, length-marked g last))) (added.are preds numbered)

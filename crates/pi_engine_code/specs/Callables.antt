@@ -13,7 +13,7 @@ use Rattle.pi_engine_code.specs.declared.code.Code.{Code}
 use Rattle.pi_engine_code.specs.declared.callables.Callable.{Callable}
 use Rattle.pi_engine_code.specs.declared.callables.Callables.{Callables}
 use Rattle.pi_engine_code.specs.Code.{Tables}
-use Rattle.pi_engine_code.specs.Laid.{IsLaid, tables_for}
+use Rattle.pi_engine_code.specs.Laid.{IsLaid, tables_for, layout}
 
 abbrev pub is_callable : ℕ → ℕ → Callable → Bool
 is_callable n k key = (n == key.name) && (k == key.arity)
@@ -28,7 +28,7 @@ pub record IsPlaceOf (all : List CorePred) (t : Tables) (names : List (List ℕ)
   pub it : GoalTree
   pub name_is : slice_get names n ≡ Some name
   pub goal_is : goal_by_name (map pred_tree all) name k ≡ Some it
-  pub laid : IsLaid all t steps 0 k place it true
+  pub laid : IsLaid (layout all t steps 0 k) place it true
 
 -- each place is that of a goal by which a name is called
 abbrev pub ArePlaces : List CorePred → Tables → List (List ℕ) → List Step → Callables → Type 0
@@ -48,9 +48,22 @@ pub record AreCallable (all : List CorePred) (t : Tables) (names : List (List �
 
 -- ---- while they are built
 
+-- a store, the code, and the places that names have so far
+pub record Placing (M : Type 0) : Type 0 where
+  pub store : StoreView M
+  pub code : Code
+  pub places : Callables
+
+abbrev pub placing : {M : Type 0} → StoreView M → Code → Callables → Placing M
+placing v c m = record { store = v; code = c; places = m }
+
+-- the places are right
+abbrev pub ArePlaced : {M : Type 0} → List CorePred → Placing M → Type 0
+ArePlaced all p = ArePlaces all (tables_for all p.store.now.terms p.code) p.store.names p.code.steps.items p.places
+
 -- a name gets a place: where it is called by a goal, places that were right stay so
-abbrev pub AddsPlaces : {M : Type 0} → List CorePred → StoreView M → StoreView M → Code → Code → Callables → Callables → List ℕ → ℕ → Type 0
-AddsPlaces all v w c d m n name k = (g : GoalTree) → goal_by_name (map pred_tree all) name k ≡ Some g → ArePlaces all (tables_for all v.now.terms c) v.names c.steps.items m → ArePlaces all (tables_for all w.now.terms d) w.names d.steps.items n
+abbrev pub AddsPlaces : {M : Type 0} → List CorePred → Placing M → Placing M → List ℕ → ℕ → Type 0
+AddsPlaces all before after name k = (g : GoalTree) → goal_by_name (map pred_tree all) name k ≡ Some g → ArePlaced all before → ArePlaced all after
 
 -- what had a place has one, and so has this name
 pub record HasPlaces (before after : List (List ℕ)) (m n : Callables) (name : List ℕ) (k : ℕ) : Type 0 where

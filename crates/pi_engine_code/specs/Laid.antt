@@ -20,6 +20,7 @@ use Rattle.pi_engine_code.specs.declared.code.Node.{Node}
 use Rattle.pi_engine_code.specs.declared.code.Step.{Step}
 use Rattle.pi_engine_code.specs.declared.code.Code.{Code}
 use Rattle.pi_engine_code.specs.Code.{Tables}
+use Rattle.pi_engine_code.specs.declared.build.Shape.{Shape}
 
 -- ---- tables that grow
 
@@ -210,15 +211,31 @@ pub record IsStepFor (preds : List CorePred) (t : Tables) (first slots : ℕ) (h
   pub slots_is : s.slots ≡ slots
   pub last : s.is_last ≡ h.last
 
+-- what goals are laid out in: the predicates that they call, the tables and their steps, and the slots of the clause, which begin behind
+-- so many and are so many
+pub record Layout : Type 0 where
+  pub preds : List CorePred
+  pub tables : Tables
+  pub steps : List Step
+  pub first : ℕ
+  pub slots : ℕ
+
+abbrev pub layout : List CorePred → Tables → List Step → ℕ → ℕ → Layout
+layout preds t steps first slots = record { preds = preds; tables = t; steps = steps; first = first; slots = slots }
+
+-- the same of tables as they are with a store
+abbrev pub layout_in : {M : Type 0} → List CorePred → StoreView M → Code → Shape → Layout
+layout_in preds v code shape = layout preds (tables_for preds v.now.terms code) code.steps.items shape.first_slot shape.slots
+
 -- the steps from a place on are those of these goals
-unfoldable pub StepsAt : List CorePred → Tables → List Step → ℕ → ℕ → ℕ → List Marked → Type 0
-StepsAt preds t steps first slots at [] = ⊤
-StepsAt preds t steps first slots at (h ∷ hs) =
-    ((s : Step) × (slice_get steps at ≡ Some s) × IsStepFor preds t first slots h s) × StepsAt preds t steps first slots (suc at) hs
+unfoldable pub StepsAt : Layout → ℕ → List Marked → Type 0
+StepsAt l at [] = ⊤
+StepsAt l at (h ∷ hs) =
+    ((s : Step) × (slice_get l.steps at ≡ Some s) × IsStepFor l.preds l.tables l.first l.slots h s) × StepsAt l (suc at) hs
 
 -- a goal is laid out at a place
-pub record IsLaid (preds : List CorePred) (t : Tables) (steps : List Step) (first slots at : ℕ) (g : GoalTree) (last : Bool) : Type 0 where
-  pub steps_are : StepsAt preds t steps first slots at (marked g last)
+pub record IsLaid (l : Layout) (at : ℕ) (g : GoalTree) (last : Bool) : Type 0 where
+  pub steps_are : StepsAt l at (marked g last)
   pub fits : at + nodes g < 4294967296
 
 -- how many child goals below a node stand before those behind which nothing of its goal is left to do

@@ -15,7 +15,7 @@ use Rattle.pi_engine_code.specs.Code.{Tables}
 use Rattle.pi_meaning.specs.CoreMeaning.Sound.{IsAnother}
 use Rattle.pi_engine_code.specs.Callables.{AreCallable}
 use Rattle.pi_engine_code.specs.Keyed.{AreKeyed}
-use Rattle.pi_engine_code.specs.Laid.{Adds, IsLaid, IsValueLaid, AreResolved}
+use Rattle.pi_engine_code.specs.Laid.{Adds, IsLaid, IsValueLaid, AreResolved, layout, Layout, tables_for}
 
 -- a test is that of a pattern; a pattern that needs more is looked up in the program
 abbrev pub IsTestOf : List (List ℕ) → PatternTree → HeadTest → Type 0
@@ -46,47 +46,63 @@ TestsAt names tests deep at (pattern p ps) =
     ((t : HeadTest) × (slice_get tests at ≡ Some t) × IsTestOf names p t × (deep ≡ false → t ≢ HeadTest.Deep)) × TestsAt names tests deep (suc at) ps
 
 -- a condition is laid out at a place; `truth` has none
-abbrev pub IsGuardLaid : List CorePred → Tables → List Step → ℕ → ℕ → Option ℕ → GoalTree → Type 0
-IsGuardLaid preds t steps first slots None g = g ≡ truth
-IsGuardLaid preds t steps first slots (Some place) g = (g ≢ truth) × IsLaid preds t steps first slots place g false
+abbrev pub IsGuardLaid : Layout → Option ℕ → GoalTree → Type 0
+IsGuardLaid l None g = g ≡ truth
+IsGuardLaid l (Some place) g = (g ≢ truth) × IsLaid l place g false
 
 -- how many goals a body is, and the value behind it
-abbrev pub IsBodyEnd : Tables → List Step → ℕ → ℕ → ℕ → ℕ → Option Tree → Type 0
-IsBodyEnd t steps first slots at goals None = goals ≡ 1
-IsBodyEnd t steps first slots at goals (Some value) = (goals ≡ 2) × IsValueLaid t steps first slots at value
+abbrev pub IsBodyEnd : Layout → ℕ → ℕ → Option Tree → Type 0
+IsBodyEnd l at goals None = goals ≡ 1
+IsBodyEnd l at goals (Some value) = (goals ≡ 2) × IsValueLaid l.tables l.steps l.first l.slots at value
 
-pub record IsRuleLaid (preds : List CorePred) (t : Tables) (names : List (List ℕ)) (steps : List Step) (tests : List HeadTest) (pred : PredTree) (c : ClauseTree) (r : Rule) : Type 0 where
+-- what rules are laid out in: the predicates that they call, the tables, the store's names, and the code
+pub record InTables : Type 0 where
+  pub preds : List CorePred
+  pub tables : Tables
+  pub names : List (List ℕ)
+  pub code : Code
+
+abbrev pub in_tables : List CorePred → Tables → List (List ℕ) → Code → InTables
+in_tables preds t names code = record { preds = preds; tables = t; names = names; code = code }
+
+-- the same of tables as they are with a store
+abbrev pub tables_with : {M : Type 0} → List CorePred → StoreView M → Code → InTables
+tables_with preds v code = in_tables preds (tables_for preds v.now.terms code) v.names code
+
+-- the slots of a clause of a predicate
+abbrev pub layout_of : InTables → PredTree → ClauseTree → Layout
+layout_of l pred c = layout l.preds l.tables l.code.steps.items pred.arity c.slots
+
+pub record IsRuleLaid (l : InTables) (pred : PredTree) (c : ClauseTree) (r : Rule) : Type 0 where
   pub slots : r.slots ≡ c.slots
   pub leaves_others_is : r.leaves_others ≡ leaves_others pred.function c
-  pub tests_are : TestsAt names tests r.is_deep r.tests c.head
-  pub guard : IsGuardLaid preds t steps pred.arity c.slots r.guard c.guard
-  pub body : IsLaid preds t steps pred.arity c.slots r.body c.body (is_none c.value)
-  pub end : IsBodyEnd t steps pred.arity c.slots (r.body + nodes c.body) r.goals c.value
+  pub tests_are : TestsAt l.names l.code.tests.items r.is_deep r.tests c.head
+  pub guard : IsGuardLaid (layout_of l pred c) r.guard c.guard
+  pub body : IsLaid (layout_of l pred c) r.body c.body (is_none c.value)
+  pub end : IsBodyEnd (layout_of l pred c) (r.body + nodes c.body) r.goals c.value
 
 -- the rules from a place on are those of clauses
-unfoldable pub RulesAt : List CorePred → Tables → List (List ℕ) → Code → PredTree → ℕ → List ClauseTree → Type 0
-RulesAt preds t names code pred at [] = ⊤
-RulesAt preds t names code pred at (c ∷ cs) =
-    ((r : Rule) × (slice_get code.rules.items at ≡ Some r) × IsRuleLaid preds t names code.steps.items code.tests.items pred c r) × RulesAt preds t names code pred (suc at) cs
+unfoldable pub RulesAt : InTables → PredTree → ℕ → List ClauseTree → Type 0
+RulesAt l pred at [] = ⊤
+RulesAt l pred at (c ∷ cs) = ((r : Rule) × (slice_get l.code.rules.items at ≡ Some r) × IsRuleLaid l pred c r) × RulesAt l pred (suc at) cs
 
-pub record IsPredicateLaid (preds : List CorePred) (t : Tables) (names : List (List ℕ)) (code : Code) (pred : PredTree) (p : Predicate) : Type 0 where
+pub record IsPredicateLaid (l : InTables) (pred : PredTree) (p : Predicate) : Type 0 where
   pub arity : p.arity ≡ pred.arity
   pub quiet : p.is_quiet ≡ pred.quiet
   pub facts : p.is_facts ≡ is_some pred.index
   pub rules : p.end ≡ p.first + length pred.clauses
-  pub each : RulesAt preds t names code pred p.first pred.clauses
+  pub each : RulesAt l pred p.first pred.clauses
 
 -- the predicates from a place on are these
-unfoldable pub PredicatesAt : List CorePred → Tables → List (List ℕ) → Code → ℕ → List PredTree → Type 0
-PredicatesAt preds t names code at [] = ⊤
-PredicatesAt preds t names code at (pred ∷ more) =
-    ((p : Predicate) × (slice_get code.predicates.items at ≡ Some p) × IsPredicateLaid preds t names code pred p) × PredicatesAt preds t names code (suc at) more
+unfoldable pub PredicatesAt : InTables → ℕ → List PredTree → Type 0
+PredicatesAt l at [] = ⊤
+PredicatesAt l at (pred ∷ more) = ((p : Predicate) × (slice_get l.code.predicates.items at ≡ Some p) × IsPredicateLaid l pred p) × PredicatesAt l (suc at) more
 
 -- the predicates of a program and its query's own are laid out, and the query's goal at a place; each call is resolved, and where no two predicates are alike, the goals by
 -- which names are called have their places; facts have the keys by which they are found
-pub record IsFilled (all : List CorePred) (t : Tables) (names : List (List ℕ)) (code : Code) (goal : GoalTree) (slots place : ℕ) : Type 0 where
-  pub predicates : PredicatesAt all t names code 0 (map pred_tree all)
-  pub goal_is : IsLaid all t code.steps.items 0 slots place goal false
-  pub resolved : AreResolved all code.steps.items
-  pub callables : AllPairs IsAnother (map pred_tree all) → AreCallable all t names code.steps.items code.callables
-  pub keyed : AreKeyed code.predicates.items code.rules.items code.tests.items code.keys
+pub record IsFilled (l : InTables) (goal : GoalTree) (slots place : ℕ) : Type 0 where
+  pub predicates : PredicatesAt l 0 (map pred_tree l.preds)
+  pub goal_is : IsLaid (layout l.preds l.tables l.code.steps.items 0 slots) place goal false
+  pub resolved : AreResolved l.preds l.code.steps.items
+  pub callables : AllPairs IsAnother (map pred_tree l.preds) → AreCallable l.preds l.tables l.names l.code.steps.items l.code.callables
+  pub keyed : AreKeyed l.code.predicates.items l.code.rules.items l.code.tests.items l.code.keys

@@ -4,9 +4,9 @@ ghost use Rattle.pi_constraints.specs.State.{bindings};
 ghost use Rattle.pi_constraints.specs.Value.{IsAcyclic};
 ghost use Rattle.pi_constraints.specs.Store.{Keeps, Stays};
 ghost use Rattle.pi_engine_code.specs.Code.{preds_of, tables_of};
-ghost use Rattle.pi_engine_code.specs.Laid.{tables_for, IsBlank, HasItsCore};
+ghost use Rattle.pi_engine_code.specs.Laid.{IsBlank, HasItsCore};
 ghost use Rattle.pi_engine_code.specs.Numbers.{IsNumbering};
-ghost use Rattle.pi_engine_code.specs.LaidRules.{IsFilled};
+ghost use Rattle.pi_engine_code.specs.LaidRules.{IsFilled, in_tables, tables_with};
 
 mod goals;
 mod keys;
@@ -39,8 +39,8 @@ pub fn build_code<'p, S: StateStore>(
     ensures stays { IfOk result (λ _. Stays (S.seen store.old) (S.seen store.new)) }
     ensures source { IfOk result (λ built. preds_of built.0 ≡ core.now.preds ++ helpers) }
     ensures filled { IfOk result (λ built. IsAcyclic (bindings (S.seen store.old).now.state) →
-        IsFilled (preds_of built.0) (tables_of (S.seen store.new).now.terms built.0)
-        (S.seen store.new).names built.0 goal.now slots built.1) }
+        IsFilled (in_tables (preds_of built.0) (tables_of (S.seen store.new).now.terms built.0) (S.seen store.new).names built.0)
+        goal.now slots built.1) }
 {
     let mut code = no_code(alloc, core);
     let preds = core.preds.as_slice();
@@ -71,8 +71,7 @@ fn fill<S: StateStore>(
     ensures stays { IfOk result (λ _. Stays (S.seen store.old) (S.seen store.new)) }
     ensures core { IfOk result (λ _. HasItsCore code.old code.new) }
     ensures filled { IfOk result (λ place. IsBlank code.old → IsAcyclic (bindings (S.seen store.old).now.state) →
-        IsFilled (preds.now ++ helpers.now) (tables_for (preds.now ++ helpers.now) (S.seen store.new).now.terms code.new)
-        (S.seen store.new).names code.new goal.now slots place) }
+        IsFilled (tables_with (preds.now ++ helpers.now) (S.seen store.new) code.new) goal.now slots place) }
 {
     let mut numbers = Numbers::new(alloc);
     numbers.add(preds)?;
@@ -142,8 +141,7 @@ impl Builder<'_> {
         ensures core { IfOk result (λ _. HasItsCore code.old code.new) }
         ensures filled { IfOk result (λ place. IsBlank code.old → IsNumbering self.now.numbers (preds.now ++ helpers.now) →
             IsAcyclic (bindings (S.seen store.old).now.state) →
-            IsFilled (preds.now ++ helpers.now) (tables_for (preds.now ++ helpers.now) (S.seen store.new).now.terms code.new)
-            (S.seen store.new).names code.new goal.now slots place) }
+            IsFilled (tables_with (preds.now ++ helpers.now) (S.seen store.new) code.new) goal.now slots place) }
     {
         self.add_predicates(code, store, preds)?;
         self.add_predicates(code, store, helpers)?;

@@ -10,7 +10,7 @@ use Rattle.pi_core.specs.declared.core_program.CoreClause.{CoreClause}
 use Rattle.pi_unify.specs.Answers.{Answers}
 use Rattle.pi_unify.proofs.KeepsLemmas.{keeps_none, stays_then}
 use Rattle.pi_meaning.specs.Machine.Step.{with_fact, from_unifying}
-use Rattle.pi_engine_facts.specs.Trying.{IsFirst}
+use Rattle.pi_engine_facts.specs.Trying.{IsFirst, numbered}
 use Rattle.pi_engine_facts.specs.Keyed.{NoneBetween}
 
 -- a state that was come back to
@@ -74,7 +74,7 @@ one-passed ts s cs first from number c so next not =
     }
 
 found-by : (ts : Trees) (s : State) (cs : List ClauseTree) (first from end number : ℕ) (c : ClauseTree) (o : Option State) → number < end → SoFar ts s cs first from number → NextFact cs first number c → with_fact ts s c ≡ o → true ≡ is_some o →
-    IsFirst ts s cs first from end number
+    IsFirst ts s (numbered cs first end) from number
 unfolding from_unifying
 found-by ts s cs first from end number c None less so next is holds = absurd cc
 found-by ts s cs first from end number c (Some r) less so next is holds =
@@ -90,7 +90,7 @@ found-by ts s cs first from end number c (Some r) less so next is holds =
     }
 
 -- it does
-pub one-found : (ts : Trees) (s : State) (cs : List ClauseTree) (first from end number : ℕ) (c : ClauseTree) → number < end → SoFar ts s cs first from number → NextFact cs first number c → true ≡ is_some (with_fact ts s c) → IsFirst ts s cs first from end number
+pub one-found : (ts : Trees) (s : State) (cs : List ClauseTree) (first from end number : ℕ) (c : ClauseTree) → number < end → SoFar ts s cs first from number → NextFact cs first number c → true ≡ is_some (with_fact ts s c) → IsFirst ts s (numbered cs first end) from number
 one-found ts s cs first from end number c less so next holds = found-by ts s cs first from end number c (with_fact ts s c) less so next refl holds
 
 -- none does
@@ -176,7 +176,7 @@ tried-passed K v w ts ds first from end number to tried up none =
     }
 
 pub tried-found : {M : Type 0} (K : Type 0) (v w : StoreView M) (ts : Trees) (ds : List CoreClause) (first from end number place : ℕ) → number < end → place ≡ number - first → Tried K v w ts ds first from end number → TellsAt w ts ds place true → K → first ≤ from →
-    end ≡ first + length ds → IsFirst ts v.now.state (map clause_tree ds) first from end number
+    end ≡ first + length ds → IsFirst ts v.now.state (numbered (map clause_tree ds) first end) from number
 tried-found K v w ts ds first from end number place less at tried tells known low ends =
     let so : SoFar ts v.now.state (map clause_tree ds) first from number = tried.so known low ends in
     let d : (d : CoreClause) × (slice_get ds (number - first) ≡ Some d) = there ds (number - first) (omega (arith, less, ends, low, so.from_on)) in

@@ -6,7 +6,7 @@ ghost use Rattle.pi_constraints.specs.Store.{IsTerm, Stays};
 ghost use Rattle.pi_core.specs.CoreTree.{clause_tree};
 ghost use Rattle.pi_core.specs.declared.core_program.CoreClause.{CoreClause as Clause};
 ghost use Rattle.pi_meaning.specs.Machine.Step.{with_fact};
-ghost use Rattle.pi_engine_facts.specs.Trying.{IsNext};
+ghost use Rattle.pi_engine_facts.specs.Trying.{IsNext, numbered};
 ghost use Rattle.pi_engine_facts.specs.Keyed.{HaveKeys};
 
 use crate::heads::unify_fact;
@@ -53,7 +53,7 @@ pub fn next_unifying<S: StateStore>(
         IsTerm (S.seen s.old) call (comp [] ts) → HaveKeys
         (S.seen s.old).names facts.now.keys.now facts.now.predicate facts.now.clauses.now facts.now.first →
         facts.now.first ≤ from → facts.now.end ≡ facts.now.first + length facts.now.clauses.now →
-        IsNext ts (S.seen s.old).now.state (map clause_tree facts.now.clauses.now) facts.now.first from facts.now.end found) }
+        IsNext ts (S.seen s.old).now.state (numbered (map clause_tree facts.now.clauses.now) facts.now.first facts.now.end) from found) }
 {
     let end = facts.end;
     let mut number = next_alike(s, facts, from, call);

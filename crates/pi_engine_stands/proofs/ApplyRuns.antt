@@ -22,7 +22,7 @@ use Rattle.pi_engine_arenas.specs.declared.arenas.Kind.{Kind}
 use Rattle.pi_engine_arenas.specs.declared.arenas.Strict.{Strict}
 use Rattle.pi_engine_arenas.specs.declared.run.Now.{Now}
 use Rattle.pi_engine_arenas.specs.Blocks.{BlocksView, KeepsBlocks}
-use Rattle.pi_engine_arenas.specs.Arenas.{ArenasView, entry_at, new_entry}
+use Rattle.pi_engine_arenas.specs.Arenas.{ArenasView, entry_at, new_entry, between}
 use Rattle.pi_engine_arenas.specs.declared.arenas.Entry.{Entry}
 use Rattle.pi_engine_arenas.specs.Frames.{PushesBehind}
 use Rattle.pi_engine_code.specs.Laid.{IsNotBuiltIn}
@@ -165,7 +165,7 @@ pub record ApplyRuns {M : Type 0} (w after : World M) (q base : ℕ) (predicate 
 
 pub apply-runs : {M : Type 0} (w : World M) (v u : StoreView M) (mark : M) (a : ArenasView M) (fs : List Point) (d : BlocksView) (rs : List Ref) (p : Point) (s : Step) (q operands into n : ℕ) (predicate : Predicate) (view : View) (g : GoalTree) (gs : GoalTrees) (e : Places) (k : List Frame) (es : List EntryData) →
     Applies w g q operands into predicate → slice_get (steps_of w.loaded) p.place ≡ Some s → (stands : StandsGoing w p (goal g gs) e k es) → AreReadable (tables_in w.loaded) (block_of w p g gs e k es stands) operands predicate.arity →
-    EvaluatesAll (block_of w p g gs e k es stands) w.store v w.arenas a (evaluated_all (trees_of (operand_trees (tables_in w.loaded) operands predicate.arity)) e w.store.now.state) rs →
+    EvaluatesAll (block_of w p g gs e k es stands) (between w.store v w.arenas a) (evaluated_all (trees_of (operand_trees (tables_in w.loaded) operands predicate.arity)) e w.store.now.state) rs →
     PushesBehind p s a.frames fs n → d.slots ≡ a.blocks.slots ++ map (λ r. Some r) rs → KeepsBlocks a.blocks d → d.kept ≡ a.blocks.kept → Marks w.order v u mark →
     ApplyRuns w (entered_level (moved w v (with_blocks (framed a fs) d)) u mark (length a.blocks.slots) n (Kind.Strict (Strict.Apply p.place p.base))) q (length a.blocks.slots) predicate view g gs e k es
 apply-runs w v u mark a fs d rs p s q operands into n predicate view g gs e k es applies at stands readable evaluates pushes new keeps kept marks =

@@ -12,7 +12,7 @@ use Rattle.pi_constraints.specs.declared.store.Ref.{Ref}
 use Rattle.pi_terms.proofs.GetLemmas.{take_more}
 use Rattle.pi_unify.proofs.KeepsLemmas.{terms_kept}
 use Rattle.pi_engine_code.specs.declared.code.Operand.{Operand}
-use Rattle.pi_engine_arenas.specs.Arenas.{ArenasView}
+use Rattle.pi_engine_arenas.specs.Arenas.{ArenasView, between}
 use Rattle.pi_engine_code.specs.Code.{Tables, operand_tree}
 use Rattle.pi_engine_stands.specs.Here.{Block, Holds}
 use Rattle.pi_engine_stands.specs.Evaluates.{Evaluates, EvaluatesAll, operand_trees}
@@ -46,7 +46,7 @@ terms-more v (q ∷ rs) (tree t ts) r x h is = (h.0, terms-more v rs ts r x h.1 
 
 -- after so many of them
 abbrev pub EvaluatesFirst : {M : Type 0} → Block → StoreView M → StoreView M → ArenasView M → ArenasView M → Tables → ℕ → ℕ → Places → List Ref → Type 0
-EvaluatesFirst b v w a c t first i e rs = EvaluatesAll b v w a c (evaluated_all (trees_of (operand_trees t first i)) e v.now.state) rs
+EvaluatesFirst b v w a c t first i e rs = EvaluatesAll b (between v w a c) (evaluated_all (trees_of (operand_trees t first i)) e v.now.state) rs
 
 pub evaluates-none : {M : Type 0} (b : Block) (v : StoreView M) (a : ArenasView M) (t : Tables) (first : ℕ) (e : Places) (rs : List Ref) → rs ≡ [] → Holds v.now.terms a.blocks.slots b e →
     EvaluatesFirst b v v a a t first 0 e rs
@@ -56,17 +56,17 @@ evaluates-none b v a t first e rs none holds =
 
 pub evaluates-more : {M : Type 0} (b : Block) (v w x : StoreView M) (a c d : ArenasView M) (t : Tables) (first i : ℕ) (o : Operand) (e : Places) (rs new : List Ref) (r : Ref) →
     slice_get t.operands (first + i) ≡ Some o → EvaluatesFirst b v w a c t first i e rs →
-    Evaluates b w x c d (evaluated (operand_tree t o) (evaluated_all (trees_of (operand_trees t first i)) e v.now.state).slots w.now.state) r → new ≡ rs ++ r ∷ [] →
+    Evaluates b (between w x c d) (evaluated (operand_tree t o) (evaluated_all (trees_of (operand_trees t first i)) e v.now.state).slots w.now.state) r → new ≡ rs ++ r ∷ [] →
     EvaluatesFirst b v x a d t first (i + 1) e new
 evaluates-more b v w x a c d t first i o e rs new r at before one pushed =
     let f : EvaluatedAll = evaluated_all (trees_of (operand_trees t first i)) e v.now.state in
     let y : Evaluated = evaluated (operand_tree t o) f.slots f.state in
-    let this : Evaluates b w x c d y r = subst (λ s. Evaluates b w x c d (evaluated (operand_tree t o) f.slots s) r) before.writes.state one in
+    let this : Evaluates b (between w x c d) y r = subst (λ s. Evaluates b (between w x c d) (evaluated (operand_tree t o) f.slots s) r) before.writes.state one in
     let here : slice_get (drop first t.operands) i ≡ Some o = behind-first t.operands first i ∙ at in
     let more : operand_trees t first (i + 1) ≡ operand_trees t first i ++ operand_tree t o ∷ [] =
     ap (map (operand_tree t)) (take_more (drop first t.operands) i o here) ∙ map-append (operand_tree t) (take i (drop first t.operands)) (o ∷ []) in
-    subst (λ ts. EvaluatesAll b v x a d (evaluated_all (trees_of ts) e v.now.state) new) (sym more)
-    (subst (λ q. EvaluatesAll b v x a d q new) (sym (one-more (operand_trees t first i) (operand_tree t o) e v.now.state))
+    subst (λ ts. EvaluatesAll b (between v x a d) (evaluated_all (trees_of ts) e v.now.state) new) (sym more)
+    (subst (λ q. EvaluatesAll b (between v x a d) q new) (sym (one-more (operand_trees t first i) (operand_tree t o) e v.now.state))
     (record {
       writes = writes-then b v w x a c d f.slots y.slots f.state y.state before.writes this.writes;
       terms = subst (λ (qs : List Ref). AreTerms x qs (append_trees f.trees (tree y.tree no_trees))) (sym pushed)

@@ -8,7 +8,7 @@ use Rattle.pi_constraints.specs.Store.{StoreView, IsGood, Returns, Extend}
 use Rattle.pi_engine_arenas.specs.declared.arenas.Back.{Back}
 use Rattle.pi_engine_arenas.specs.declared.blocks.BlocksMark.{BlocksMark}
 use Rattle.pi_engine_arenas.specs.Blocks.{IsKept, brought_back}
-use Rattle.pi_engine_arenas.specs.Arenas.{ArenasView, entry_at, newest, slots_kept_by, frames_kept_by, noted_by, Drops, ComesBack, ReturnsToNewest, DropsNewest}
+use Rattle.pi_engine_arenas.specs.Arenas.{ArenasView, entry_at, newest, slots_kept_by, frames_kept_by, noted_by, Drops, ComesBack, ReturnsToNewest, DropsNewest, between}
 use Rattle.pi_engine_arenas.specs.declared.arenas.Entry.{Entry}
 use Rattle.pi_meaning.specs.Machine.Configuration.{Entry as EntryData}
 use Rattle.pi_meaning.specs.Machine.Shape.{open_level}
@@ -53,7 +53,7 @@ pub record CameBack {M : Type 0} (w : World M) (back : Back) (es : List EntryDat
   pub back_at : IsBack w back waits below
 
 came-back-in : {M : Type 0} (w : World M) (v : StoreView M) (b : ArenasView M) (back : Back) (n top : ℕ) (es : List EntryData) → StackStands w es →
-    ReturnsToNewest w.order w.store v w.arenas b back → length (entries_of w) ≡ n → top ≡ length w.arenas.collected → StackIs w n top es → CameBack (moved w v b) back es
+    ReturnsToNewest w.order (between w.store v w.arenas b) back → length (entries_of w) ≡ n → top ≡ length w.arenas.collected → StackIs w n top es → CameBack (moved w v b) back es
 came-back-in w v b back n top es stands takes count all no_entries = absurd (none-some refl (sym (ap (entry_at (entries_of w)) count) ∙ takes.newest_is))
 came-back-in w v b back n top es stands takes count all (entry_above m from fs x y here is below) =
     let taken : x ≡ takes.entry = taken-is (ap (entry_at (entries_of w)) count) takes.newest_is here in
@@ -98,7 +98,7 @@ came-back-in w v b back n top es stands takes count all (entry_above m from fs x
     }
 
 pub came-back : {M : Type 0} (w : World M) (v : StoreView M) (b : ArenasView M) (back : Back) (es : List EntryData) → StackStands w es →
-    ReturnsToNewest w.order w.store v w.arenas b back → CameBack (moved w v b) back es
+    ReturnsToNewest w.order (between w.store v w.arenas b) back → CameBack (moved w v b) back es
 came-back w v b back es stands takes = came-back-in w v b back (length (entries_of w)) (length w.arenas.collected) es stands takes refl refl stands.stack
 
 -- what the entry waits for, in what is there

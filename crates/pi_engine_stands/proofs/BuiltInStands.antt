@@ -24,7 +24,7 @@ use Rattle.pi_engine_code.specs.Laid.{IsEffectOf}
 use Rattle.pi_engine_arenas.specs.declared.frames.Point.{Point}
 use Rattle.pi_engine_arenas.specs.declared.run.Now.{Now}
 use Rattle.pi_engine_arenas.specs.Blocks.{BlocksView, KeepsBlocks}
-use Rattle.pi_engine_arenas.specs.Arenas.{ArenasView}
+use Rattle.pi_engine_arenas.specs.Arenas.{ArenasView, between}
 use Rattle.pi_engine_arenas.specs.Frames.{point_behind, slot_number}
 use Rattle.pi_meaning.specs.declared.happening.Mode.{Mode}
 use Rattle.pi_meaning.specs.Machine.Configuration.{Frame, going, telling, failed, raising, Entry as EntryData}
@@ -92,7 +92,7 @@ pub effect-step : {M : Type 0} (w : World M) (v u : StoreView M) (c : ArenasView
     s.node ≡ Node.BuiltIn built name first arity → slice_get (steps_of w.loaded) p.place ≡ Some s → (stands : StandsGoing w p (goal g gs) e k es) → Fits mode view →
     let args : List Tree = operand_trees (tables_in w.loaded) first arity in
     let all : EvaluatedAll = evaluated_all (trees_of args) e w.store.now.state in
-    EvaluatesAll (block_of w p g gs e k es stands) w.store v w.arenas c all rs → Stays v u → built_in_predicate (slice_index_or (tables_in w.loaded).names name []) all.trees all.state ≡ Some d →
+    EvaluatesAll (block_of w p g gs e k es stands) (between w.store v w.arenas c) all rs → Stays v u → built_in_predicate (slice_index_or (tables_in w.loaded).names name []) all.trees all.state ≡ Some d →
     ComesNext mode (point_behind p s) d u.now.state now → StandsAfter (moved w u c) now (goal_step view w.loaded.preds g e w.store.now.state (with_rest gs k es))
 unfolding node_kind
 effect-step w v u c p s built name first arity rs d mode now view g gs e k es node at stands fits evaluates stays does next =
@@ -101,7 +101,7 @@ effect-step w v u c p s built name first arity rs d mode now view g gs e k es no
     let word : List ℕ = slice_index_or (tables_in w.loaded).names name [] in
     let all : EvaluatedAll = evaluated_all (trees_of args) e w.store.now.state in
     let it : g ≡ call word args = call-of g word args (kind-of-node w p s g gs e k (Node.BuiltIn built name first arity) at is node) in
-    let writes : Writes is.block w.store u w.arenas c all.slots u.now.state =
+    let writes : Writes is.block (between w.store u w.arenas c) all.slots u.now.state =
     writes-then is.block w.store v u w.arenas c c all.slots all.slots all.state u.now.state evaluates.writes (writes-kept is.block v u c all.slots stays.keeps evaluates.writes.holds) in
     let state : IsState u.now.state = subst IsState (sym (stays.state ∙ evaluates.writes.state)) (evaluated-all-state (trees_of args) e w.store.now.state stands.entries.state) in
     let behind : GoingIs (moved w u c) (point_behind p s) gs all.slots k =
@@ -120,7 +120,7 @@ pub value-step : {M : Type 0} (w : World M) (v u : StoreView M) (c : ArenasView 
     let args : List Tree = operand_trees (tables_in w.loaded) first arity in
     let all : EvaluatedAll = evaluated_all (trees_of args) e w.store.now.state in
     let b : Block = block_of w p g gs e k es stands in
-    EvaluatesAll b w.store v w.arenas c all rs → built_in_function (slice_index_or (tables_in w.loaded).names name []) all.trees all.state ≡ Some (Gives t r) → GivesTerm v u r made t →
+    EvaluatesAll b (between w.store v w.arenas c) all rs → built_in_function (slice_index_or (tables_in w.loaded).names name []) all.trees all.state ≡ Some (Gives t r) → GivesTerm v u r made t →
     into < b.count → begins ≡ slot_number b.base b.first → slot ≡ slot_number begins into → new.slots ≡ slice_set c.blocks.slots slot (Some made) → new.kept ≡ c.blocks.kept → KeepsBlocks c.blocks new → length c.blocks.slots ≤ 18446744073709551615 →
     q ≡ point_behind p s → StandsAfter (moved w u (with_blocks c new)) (Now.Going q) (goal_step view w.loaded.preds g e w.store.now.state (with_rest gs k es))
 unfolding node_kind
@@ -134,7 +134,7 @@ value-step w v u c new p q s built name first arity into begins slot rs made t r
     let d : ArenasView _ = with_blocks c new in
     let there : slot ≡ is.block.base + is.block.first + into =
     slot-is is.block into slot (length c.blocks.slots) (slot_at ∙ ap (λ n. slot_number n into) begins_is) within evaluates.writes.holds.within most in
-    let writes : Writes is.block w.store u w.arenas d f r =
+    let writes : Writes is.block (between w.store u w.arenas d) f r =
     writes-then is.block w.store v u w.arenas c d all.slots f all.state r evaluates.writes
     (slot-written is.block v u c new all.slots into slot made t r there within evaluates.writes.holds gives.changes.keeps gives.changes.state gives.term slots kept stays) in
     let state : IsState r = made-state all.state r t (evaluated-all-state (trees_of args) e w.store.now.state stands.entries.state) (functions-make word all.trees all.state (Gives t r) does) in
@@ -152,7 +152,7 @@ pub refusal-step : {M : Type 0} (w : World M) (v u : StoreView M) (c : ArenasVie
     s.node ≡ Node.BuiltInValue built name first arity into → slice_get (steps_of w.loaded) p.place ≡ Some s → (stands : StandsGoing w p (goal g gs) e k es) →
     let args : List Tree = operand_trees (tables_in w.loaded) first arity in
     let all : EvaluatedAll = evaluated_all (trees_of args) e w.store.now.state in
-    EvaluatesAll (block_of w p g gs e k es stands) w.store v w.arenas c all rs → Stays v u → built_in_function (slice_index_or (tables_in w.loaded).names name []) all.trees all.state ≡ Some (Refuses ball) →
+    EvaluatesAll (block_of w p g gs e k es stands) (between w.store v w.arenas c) all rs → Stays v u → built_in_function (slice_index_or (tables_in w.loaded).names name []) all.trees all.state ≡ Some (Refuses ball) →
     StandsAfter (moved w u c) (Now.Raising ball) (goal_step view w.loaded.preds g e w.store.now.state (with_rest gs k es))
 unfolding node_kind
 refusal-step w v u c p s built name first arity into rs ball view g gs e k es node at stands evaluates stays does =
@@ -161,7 +161,7 @@ refusal-step w v u c p s built name first arity into rs ball view g gs e k es no
     let word : List ℕ = slice_index_or (tables_in w.loaded).names name [] in
     let all : EvaluatedAll = evaluated_all (trees_of args) e w.store.now.state in
     let it : g ≡ apply word args into = apply-of g word args into (kind-of-node w p s g gs e k (Node.BuiltInValue built name first arity into) at is node) in
-    let writes : Writes is.block w.store u w.arenas c all.slots u.now.state =
+    let writes : Writes is.block (between w.store u w.arenas c) all.slots u.now.state =
     writes-then is.block w.store v u w.arenas c c all.slots all.slots all.state u.now.state evaluates.writes (writes-kept is.block v u c all.slots stays.keeps evaluates.writes.holds) in
     let state : IsState u.now.state = subst IsState (sym (stays.state ∙ evaluates.writes.state)) (evaluated-all-state (trees_of args) e w.store.now.state stands.entries.state) in
     subst (λ h. StandsAfter (moved w u c) (Now.Raising ball) (goal_step view w.loaded.preds h e w.store.now.state (with_rest gs k es))) (sym it)

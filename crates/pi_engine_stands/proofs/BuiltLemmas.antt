@@ -12,7 +12,7 @@ use Rattle.pi_constraints.specs.declared.store.Ref.{Ref}
 use Rattle.pi_unify.specs.Copying.{AreBuilt}
 use Rattle.pi_unify.proofs.KeepsLemmas.{terms_kept}
 use Rattle.pi_engine_code.specs.declared.code.Part.{Part}
-use Rattle.pi_engine_arenas.specs.Arenas.{ArenasView}
+use Rattle.pi_engine_arenas.specs.Arenas.{ArenasView, between}
 use Rattle.pi_engine_code.specs.Code.{Tables, term_at, with_part, spelled_parts}
 use Rattle.pi_engine_stands.specs.Here.{Block, Holds, IsReadablePart}
 use Rattle.pi_engine_stands.specs.Evaluates.{Writes, Evaluates, part_on, IsFilledPart, parts_between, AreReadableParts, AreFilledParts}
@@ -46,17 +46,17 @@ put-on v made new r x us term built is =
 
 pub part-known : {M : Type 0} (b : Block) (v : StoreView M) (a : ArenasView M) (t : Tables) (f : Places) (us : Trees) (made new : List Ref) (r : Ref) →
     Extend t.terms v.now.terms → IsReadablePart t.terms b (Part.Known r) → Holds v.now.terms a.blocks.slots b f → AreBuilt v made us → new ≡ made ++ r ∷ [] →
-    Writes b v v a a f v.now.state × AreBuilt v new (part_on t (Part.Known r) f v.now.state us)
+    Writes b (between v v a a) f v.now.state × AreBuilt v new (part_on t (Part.Known r) f v.now.state us)
 part-known b v a t f us made new r extend (u, is, ground) holds built pushed =
     (writes-none b v a f holds, put-on v made new r (term_at t r) us (subst (λ x. IsTerm v r x) (sym (known-is t r u is)) (extend r.number u is)) built pushed)
 
 filled-writes : {M : Type 0} (b : Block) (v w : StoreView M) (a c : ArenasView M) (f : Places) (s : State) (k : ℕ) (o : Option Tree) → (x : Tree) × (o ≡ Some x) →
-    Writes b v w a c (slot_term o k f s).slots (slot_term o k f s).state → Writes b v w a c f s
-filled-writes b v w a c f s k o (x, is) writes = subst (λ q. Writes b v w a c (slot_term q k f s).slots (slot_term q k f s).state) is writes
+    Writes b (between v w a c) (slot_term o k f s).slots (slot_term o k f s).state → Writes b (between v w a c) f s
+filled-writes b v w a c f s k o (x, is) writes = subst (λ q. Writes b (between v w a c) (slot_term q k f s).slots (slot_term q k f s).state) is writes
 
 pub part-slot : {M : Type 0} (b : Block) (v w : StoreView M) (a c : ArenasView M) (t : Tables) (f : Places) (us : Trees) (made new : List Ref) (k : ℕ) (r : Ref) →
-    IsFilledPart f (Part.Slot k) → Evaluates b v w a c (slot_term (held f k) k f v.now.state) r → AreBuilt v made us → new ≡ made ++ r ∷ [] →
-    Writes b v w a c f v.now.state × AreBuilt w new (part_on t (Part.Slot k) f v.now.state us)
+    IsFilledPart f (Part.Slot k) → Evaluates b (between v w a c) (slot_term (held f k) k f v.now.state) r → AreBuilt v made us → new ≡ made ++ r ∷ [] →
+    Writes b (between v w a c) f v.now.state × AreBuilt w new (part_on t (Part.Slot k) f v.now.state us)
 part-slot b v w a c t f us made new k r filled is built pushed = (
   filled-writes b v w a c f v.now.state k (held f k) filled is.writes,
   put-on w made new r (slot_term (held f k) k f v.now.state).tree us is.term (terms_kept v w (reverse made) us is.writes.keeps built) pushed,
@@ -65,9 +65,9 @@ part-slot b v w a c t f us made new k r filled is built pushed = (
 pub part-compound : {M : Type 0} (b : Block) (v w : StoreView M) (a : ArenasView M) (t : Tables) (f : Places) (us : Trees) (made rest args new : List Ref) (i k : ℕ) (r : Ref) →
     Holds v.now.terms a.blocks.slots b f → AreBuilt v made us → args ≡ take k (reverse made) → reverse rest ≡ drop k (reverse made) → Stays v w →
     ((ts : Trees) → AreTerms v args ts → IsTerm w r (comp (slice_index_or t.names i []) ts)) → new ≡ rest ++ r ∷ [] →
-    Writes b v w a a f v.now.state × AreBuilt w new (part_on t (Part.Compound i k) f v.now.state us)
+    Writes b (between v w a a) f v.now.state × AreBuilt w new (part_on t (Part.Compound i k) f v.now.state us)
 part-compound b v w a t f us made rest args new i k r holds built taken left stays puts pushed =
-    let same : Writes b v v a a f v.now.state = writes-none b v a f holds in (
+    let same : Writes b (between v v a a) f v.now.state = writes-none b v a f holds in (
       record {
         keeps = stays.keeps;
         state = stays.state;
@@ -101,9 +101,9 @@ nothing-built v t to f s made none =
     (subst (λ (rs : List Ref). AreTerms v (reverse rs) no_trees) (sym none) tt)
 
 pub one-built : {M : Type 0} (b : Block) (v w x : StoreView M) (a c d : ArenasView M) (t : Tables) (f : Places) (from to i : ℕ) (p : Part) (new : List Ref) → from ≤ i → i < to → slice_get t.parts i ≡ Some p →
-    AreReadableParts t b (parts_between t from to) → AreFilledParts f (parts_between t from to) → Writes b v w a c f v.now.state →
-    Writes b w x c d f w.now.state × AreBuilt x new (part_on t p f w.now.state (built_from t (suc i) to f v.now.state)) →
-    Writes b v x a d f v.now.state × AreBuilt x new (built_from t i to f v.now.state)
+    AreReadableParts t b (parts_between t from to) → AreFilledParts f (parts_between t from to) → Writes b (between v w a c) f v.now.state →
+    Writes b (between w x c d) f w.now.state × AreBuilt x new (part_on t p f w.now.state (built_from t (suc i) to f v.now.state)) →
+    Writes b (between v x a d) f v.now.state × AreBuilt x new (built_from t i to f v.now.state)
 unfolding spelled_parts
 one-built b v w x a c d t f from to i p new above below at readable filled before (writes, built) =
     let s : State = v.now.state in
@@ -112,7 +112,7 @@ one-built b v w x a c d t f from to i p new above below at readable filled befor
     part-evaluated t b p (spelled_parts t ps) f s (readable-here t b from to i p above below at readable) (filled (i - from) p (part-here t from to i above below ∙ at)) in
     let whole : built_from t i to f s ≡ part_on t p f s (built_from t (suc i) to f s) =
     ap (λ qs. (evaluated_all (spelled_parts t qs) f s).trees) (parts-first t i to p at below) ∙ is in (
-      writes-then b v w x a c d f f s s before (subst (λ q. Writes b w x c d f q) before.state writes),
+      writes-then b v w x a c d f f s s before (subst (λ q. Writes b (between w x c d) f q) before.state writes),
       subst (λ us. AreBuilt x new us) (sym whole) (subst (λ q. AreBuilt x new (part_on t p f q (built_from t (suc i) to f s))) before.state built),
     )
 
@@ -129,8 +129,8 @@ same-last (p ∷ o ∷ rest) q r h = absurd cc
 
 -- the compound is the one that is left
 pub all-built : {M : Type 0} (b : Block) (v w : StoreView M) (a c : ArenasView M) (t : Tables) (f : Places) (from to i : ℕ) (u : Tree) (made rest : List Ref) (q : Ref) → i ≡ from →
-    spelled_parts t (parts_between t from to) ≡ tree u no_trees → Writes b v w a c f v.now.state → AreBuilt w made (built_from t i to f v.now.state) → made ≡ rest ++ q ∷ [] →
-    Evaluates b v w a c (record { tree = (evaluated u f v.now.state).tree; slots = f; state = v.now.state }) q
+    spelled_parts t (parts_between t from to) ≡ tree u no_trees → Writes b (between v w a c) f v.now.state → AreBuilt w made (built_from t i to f v.now.state) → made ≡ rest ++ q ∷ [] →
+    Evaluates b (between v w a c) (record { tree = (evaluated u f v.now.state).tree; slots = f; state = v.now.state }) q
 unfolding evaluated
 all-built b v w a c t f from to i u made rest q is spelled writes built popped =
     let x : Tree = (evaluated u f v.now.state).tree in

@@ -7,7 +7,7 @@ use Rattle.pi_constraints.specs.Store.{StoreView, Stays}
 use Rattle.pi_engine_arenas.specs.declared.arenas.Kind.{Kind}
 use Rattle.pi_engine_arenas.specs.declared.blocks.BlocksMark.{BlocksMark}
 use Rattle.pi_engine_arenas.specs.Blocks.{IsKept, brought_back}
-use Rattle.pi_engine_arenas.specs.Arenas.{ArenasView, entry_at, newest, slots_kept_by, frames_kept_by, noted_by, with_kind, PushesEntry}
+use Rattle.pi_engine_arenas.specs.Arenas.{ArenasView, entry_at, newest, slots_kept_by, frames_kept_by, noted_by, with_kind, PushesEntry, between, keeping}
 use Rattle.pi_engine_arenas.specs.declared.arenas.Entry.{Entry}
 use Rattle.pi_meaning.specs.Machine.Configuration.{Entry as EntryData}
 use Rattle.pi_engine_stands.specs.Stands.{World, entries_of, entry_ends, back_here, KindIs, EntryIs, IsAbove, StackIs, no_entries, entry_above}
@@ -150,10 +150,10 @@ arenas-renamed a b x kind entries blocks frames level collected =
 
 -- a call is kept, as it is known
 pub keeps-own : {M : Type 0} (order : M → ℕ) (v : StoreView M) (a b : ArenasView M) (slots base frame : ℕ) (kind : Kind) (again : Bool) → again ≡ true →
-    ((x : Entry M) → newest a.entries ≡ Some x → b ≡ renamed a x kind) → KeepsCall order v v a b slots base frame kind again
-keeps-own order v a b slots base frame kind again is same = subst (KeepsCall order v v a b slots base frame kind) (sym is) (keeps_own refl same)
+    ((x : Entry M) → newest a.entries ≡ Some x → b ≡ renamed a x kind) → KeepsCall order (between v v a b) (keeping slots base frame kind) again
+keeps-own order v a b slots base frame kind again is same = subst (KeepsCall order (between v v a b) (keeping slots base frame kind)) (sym is) (keeps_own refl same)
 
 pub keeps-new : {M : Type 0} (order : M → ℕ) (v w : StoreView M) (a b : ArenasView M) (slots from base frame : ℕ) (kind : Kind) (again : Bool) → again ≡ false → from ≡ slots →
-    PushesEntry order v w a b from base frame kind → KeepsCall order v w a b slots base frame kind again
+    PushesEntry order (between v w a b) (keeping from base frame kind) → KeepsCall order (between v w a b) (keeping slots base frame kind) again
 keeps-new order v w a b slots from base frame kind again is at push =
-    subst (KeepsCall order v w a b slots base frame kind) (sym is) (keeps_new (subst (λ n. PushesEntry order v w a b n base frame kind) at push))
+    subst (KeepsCall order (between v w a b) (keeping slots base frame kind)) (sym is) (keeps_new (subst (λ n. PushesEntry order (between v w a b) (keeping n base frame kind)) at push))

@@ -7,7 +7,7 @@ use Rattle.pi_constraints.specs.State.{State}
 use Rattle.pi_core.specs.CoreTree.{ClauseTree, PredTree}
 use Rattle.pi_terms.proofs.GetLemmas.{get_append_last}
 use Rattle.pi_engine_arenas.specs.declared.arenas.Kind.{Kind}
-use Rattle.pi_engine_arenas.specs.Arenas.{ArenasView, entry_at, newest, slots_kept_by, with_kind, new_entry, pushed, PushesEntry}
+use Rattle.pi_engine_arenas.specs.Arenas.{ArenasView, entry_at, newest, slots_kept_by, with_kind, new_entry, pushed, PushesEntry, between, keeping}
 use Rattle.pi_engine_arenas.specs.declared.arenas.Entry.{Entry}
 use Rattle.pi_meaning.specs.Machine.Configuration.{Frame, Called, Entry as EntryData}
 use Rattle.pi_engine_stands.specs.Here.{Here}
@@ -62,7 +62,7 @@ one-pred r p q h k = cc
 kept-new : {M : Type 0} (w : World M) (v : StoreView M) (a : ArenasView M) (p base frame from slots : ℕ) (called : Called) (cs : List ClauseTree) (s : State) (k : List Frame) (es : List EntryData) (again : Bool) (kind : Kind) (y : EntryData) →
     (is : CallIs w p base frame from called cs s k es again) → slots ≡ base + is.call.call.pred.arity → Makes w p base frame from called cs s k kind y →
     w.store.now.state ≡ s → CallStands w.loaded (now_here w) base frame p from called cs k → StackIs w (length (entries_of w)) (length w.arenas.collected) es →
-    PushesEntry w.order w.store v w.arenas a slots base frame kind → CallKept w v a base kind y es
+    PushesEntry w.order (between w.store v w.arenas a) (keeping slots base frame kind) → CallKept w v a base kind y es
 kept-new w v a p base frame from slots called cs s k es again kind y is at makes same stands stack push =
     let top : ℕ = length w.arenas.collected in
     let n : ℕ = length (entries_of w) in
@@ -124,7 +124,7 @@ kept-own w v a p base frame from called cs s k es kind y own makes kept store ar
 
 kept-either : {M : Type 0} (w : World M) (v : StoreView M) (a : ArenasView M) (p base frame from slots : ℕ) (called : Called) (cs : List ClauseTree) (s : State) (k : List Frame) (es : List EntryData) (again known : Bool) (kind : Kind) (y : EntryData) →
     (is : CallIs w p base frame from called cs s k es known) → slots ≡ base + is.call.call.pred.arity → Makes w p base frame from called cs s k kind y →
-    HasEntry w p base frame from called cs s k es again → KeepsCall w.order w.store v w.arenas a slots base frame kind again → CallKept w v a base kind y es
+    HasEntry w p base frame from called cs s k es again → KeepsCall w.order (between w.store v w.arenas a) (keeping slots base frame kind) again → CallKept w v a base kind y es
 kept-either w v a p base frame from slots called cs s k es again known kind y is at makes (no_entry same stands stack) (keeps_new push) =
     kept-new w v a p base frame from slots called cs s k es known kind y is at makes same stands stack push
 kept-either w v a p base frame from slots called cs s k es again known kind y is at makes (own_entry own) (keeps_own store arenas) =
@@ -133,6 +133,6 @@ kept-either w v a p base frame from slots called cs s k es again known kind y is
 -- a call is kept
 pub call-kept : {M : Type 0} (w : World M) (v : StoreView M) (a : ArenasView M) (p base frame from slots : ℕ) (called : Called) (cs : List ClauseTree) (s : State) (k : List Frame) (es : List EntryData) (again : Bool) (kind : Kind) (y : EntryData) →
     (is : CallIs w p base frame from called cs s k es again) → slots ≡ base + is.call.call.pred.arity → Makes w p base frame from called cs s k kind y →
-    KeepsCall w.order w.store v w.arenas a slots base frame kind again → CallKept w v a base kind y es
+    KeepsCall w.order (between w.store v w.arenas a) (keeping slots base frame kind) again → CallKept w v a base kind y es
 call-kept w v a p base frame from slots called cs s k es again kind y is at makes keeps =
     kept-either w v a p base frame from slots called cs s k es again again kind y is at makes is.entry keeps

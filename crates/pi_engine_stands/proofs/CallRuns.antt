@@ -20,7 +20,7 @@ use Rattle.pi_engine_code.specs.declared.code.Step.{Step}
 use Rattle.pi_engine_code.specs.declared.code.Predicate.{Predicate}
 use Rattle.pi_engine_arenas.specs.declared.run.Now.{Now}
 use Rattle.pi_engine_arenas.specs.Blocks.{BlocksView, KeepsBlocks}
-use Rattle.pi_engine_arenas.specs.Arenas.{ArenasView}
+use Rattle.pi_engine_arenas.specs.Arenas.{ArenasView, between}
 use Rattle.pi_engine_arenas.specs.Frames.{PushesBehind}
 use Rattle.pi_engine_code.specs.Laid.{IsNotBuiltIn}
 use Rattle.pi_engine_code.specs.Code.{Tables, preds_of, arguments, node_kind, operand_tree}
@@ -169,7 +169,7 @@ pub record CallRuns {M : Type 0} (w after : World M) (q base frame : ℕ) (predi
 
 pub call-runs : {M : Type 0} (w : World M) (v : StoreView M) (a : ArenasView M) (fs : List Point) (c d : BlocksView) (rs : List Ref) (p : Point) (s : Step) (q operands n : ℕ) (predicate : Predicate) (view : View) (g : GoalTree) (gs : GoalTrees) (e : Places) (k : List Frame) (es : List EntryData) →
     Calls w g q operands predicate → slice_get (steps_of w.loaded) p.place ≡ Some s → (stands : StandsGoing w p (goal g gs) e k es) → AreReadable (tables_in w.loaded) (block_of w p g gs e k es stands) operands predicate.arity →
-    EvaluatesAll (block_of w p g gs e k es stands) w.store v w.arenas a (evaluated_all (trees_of (operand_trees (tables_in w.loaded) operands predicate.arity)) e w.store.now.state) rs →
+    EvaluatesAll (block_of w p g gs e k es stands) (between w.store v w.arenas a) (evaluated_all (trees_of (operand_trees (tables_in w.loaded) operands predicate.arity)) e w.store.now.state) rs →
     PushesBehind p s a.frames fs n → GivesBack a.blocks c p.base s.is_last → d.slots ≡ c.slots ++ map (λ r. Some r) rs → KeepsBlocks c d → d.kept ≡ c.kept →
     CallRuns w (moved w v (with_blocks (framed a fs) d)) q (length c.slots) n predicate view g gs e k es
 call-runs w v a fs c d rs p s q operands n predicate view g gs e k es calls at stands readable evaluates pushes gives new keeps kept =

@@ -16,7 +16,7 @@ use Rattle.pi_engine_code.specs.declared.code.Node.{Node}
 use Rattle.pi_engine_code.specs.declared.code.Operand.{Operand}
 use Rattle.pi_engine_arenas.specs.declared.run.Now.{Now}
 use Rattle.pi_engine_code.specs.Code.{node_kind, operand_tree}
-use Rattle.pi_engine_arenas.specs.Arenas.{ArenasView}
+use Rattle.pi_engine_arenas.specs.Arenas.{ArenasView, between}
 use Rattle.pi_meaning.specs.Machine.Configuration.{Frame, behind, catch_level, Entry as EntryData}
 use Rattle.pi_meaning.specs.Machine.Step.{goal_step, inside, back_to, with_rest}
 use Rattle.pi_meaning.specs.Machine.Shape.{open_level}
@@ -32,6 +32,7 @@ use Rattle.pi_engine_stands.proofs.StandsLemmas.{moved}
 use Rattle.pi_engine_stands.proofs.CallLemmas.{catch-of, evaluated-state}
 use Rattle.pi_engine_stands.proofs.EqualStands.{block_of, kind-of-node, stack-moved, going-moved}
 use Rattle.pi_engine_stands.proofs.ValuesStand.{operand-below, slots-of}
+use Rattle.pi_engine_stands.specs.Changes.{change}
 
 pub catch-step : {M : Type 0} (w : World M) (v : StoreView M) (mark : M) (p : Point) (s : Step) (fs : List Point) (n : ℕ) (c h : GoalTree) (ball : Tree) (gs : GoalTrees) (e : Places) (k : List Frame) (es : List EntryData) →
     Pushed w p s fs n → Marks w.order w.store v mark → StandsGoing w p (goal (catch c ball h) gs) e k es →
@@ -51,8 +52,8 @@ catch-has-child c h ball = omega arith
 pub catch-enters : {M : Type 0} (w after : World M) (v : StoreView M) (a : ArenasView M) (p : Point) (s : Step) (operand : Operand) (q : Ref) (now : Now) (view : View) (g : GoalTree) (gs : GoalTrees) (e : Places) (k : List Frame) (es : List EntryData) →
     s.node ≡ Node.Catch operand → slice_get (steps_of w.loaded) p.place ≡ Some s → (stands : StandsGoing w p (goal g gs) e k es) →
     IsReadable (tables_in w.loaded) (block_of w p g gs e k es stands) operand →
-    Evaluates (block_of w p g gs e k es stands) w.store v w.arenas a (evaluated (operand_tree (tables_in w.loaded) operand) e w.store.now.state) q →
-    EntersCatch (moved w v a) after p s now → StandsAfter after now (goal_step view w.loaded.preds g e w.store.now.state (with_rest gs k es))
+    Evaluates (block_of w p g gs e k es stands) (between w.store v w.arenas a) (evaluated (operand_tree (tables_in w.loaded) operand) e w.store.now.state) q →
+    EntersCatch p s (change (moved w v a) after now) → StandsAfter after now (goal_step view w.loaded.preds g e w.store.now.state (with_rest gs k es))
 unfolding node_kind goal_step
 catch-enters w after v a p s operand q now view g gs e k es node at stands readable value_is enters =
     let is : GoingIs w p (goal g gs) e k = going-of w p (goal g gs) e w.store.now.state k stands.runs in

@@ -23,7 +23,7 @@ use Rattle.pi_engine_code.specs.declared.code.Operand.{Operand}
 use Rattle.pi_engine_code.specs.declared.code.Step.{Step}
 use Rattle.pi_engine_arenas.specs.declared.run.Now.{Now}
 use Rattle.pi_engine_code.specs.Code.{Tables, tables_of, node_kind, operand_tree, StandsAt, child_place}
-use Rattle.pi_engine_arenas.specs.Arenas.{ArenasView, DropsNewest}
+use Rattle.pi_engine_arenas.specs.Arenas.{ArenasView, DropsNewest, between}
 use Rattle.pi_meaning.specs.Machine.Configuration.{Frame, Entry as EntryData, config, raising}
 use Rattle.pi_meaning.specs.Machine.Step.{raise_step, handler_step, run_goal}
 use Rattle.pi_engine_stands.specs.Here.{Block, SayLast, Holds}
@@ -39,6 +39,7 @@ use Rattle.pi_engine_stands.proofs.StandsLemmas.{moved}
 use Rattle.pi_engine_stands.proofs.BackStand.{Popped, popped, popped-stands}
 use Rattle.pi_engine_stands.proofs.EndsStand.{child-runs, child-found}
 use Rattle.pi_engine_stands.proofs.WrittenGoals.{own-step, GoalWritten, goal-written}
+use Rattle.pi_engine_stands.specs.Changes.{change}
 
 -- ---- the handler
 
@@ -115,7 +116,7 @@ news-are (suc k) s = ap with_new (news-are k s) ∙ new-last k s
 -- ---- what follows
 
 follows : {M : Type 0} (w : World M) (u : StoreView M) (c : ArenasView M) (base place frame at_child : ℕ) (g handler : GoalTree) (wanted ball : Tree) (e : Places) (k : List Frame) (es : List EntryData) (o : Option State) (found : Bool) (now : Now) → StackStands w es →
-    GoalStands w.loaded (now_here w) base place frame (catch g wanted handler) e k → Agrees w w.arenas.level (now_here w) → Writes (block_at w.loaded place base) w.store u w.arenas c e u.now.state → IsState u.now.state →
+    GoalStands w.loaded (now_here w) base place frame (catch g wanted handler) e k → Agrees w w.arenas.level (now_here w) → Writes (block_at w.loaded place base) (between w.store u w.arenas c) e u.now.state → IsState u.now.state →
     (found ≡ true → at_child ≡ child_place (catch g wanted handler) place 1) → Answers o found u.now.state →
     now ≡ (if found then Now.Going (record { place = at_child; count = 1; base = base; frame = frame }) else Now.Raising ball) →
     Stands (moved w u c) now (config (handler_step handler (record { slots = e; state = w.store.now.state; frames = k }) ball o) es)
@@ -135,7 +136,7 @@ follows w u c base place frame at_child g handler wanted ball e k es (Some r) fo
 caught-in : {M : Type 0} (w : World M) (u : StoreView M) (c : ArenasView M) (back : Back) (collected : List Tree) (from place at_child slots : ℕ) (code : Code) (s : Step) (kind : Kind) (ball : Tree) (found : Bool) (now : Now) (y : EntryData) (es : List EntryData) →
     Popped w back collected from y es → kind ≡ Kind.Catch place → w.loaded.code ≡ code → ((r : Step) → slice_get code.steps.items place ≡ Some r → s ≡ r) →
     (found ≡ true → (terms : ℕ → Option Tree) (h : GoalTree) → StandsAt (tables_of terms code) code.steps.items place h → 1 < child_count h → at_child ≡ child_place h place 1) →
-    TellsCaught w (moved w u c) back s ball found → now ≡ (if found then Now.Going (record { place = at_child; count = 1; base = back.base; frame = back.frame }) else Now.Raising ball) →
+    TellsCaught back s ball found (change w (moved w u c) Now.Failing) → now ≡ (if found then Now.Going (record { place = at_child; count = 1; base = back.base; frame = back.frame }) else Now.Raising ball) →
     KindIs w.loaded collected (now_here w) w.store.now.state back.base back.frame slots from (length collected) kind y → ComesTo (moved w u c) now (raise_step ball (y ∷ es))
 unfolding raise_step
 caught-in w u c back collected from place at_child slots code s kind ball found now y es it named is_code step finds tells follows_it (rules_kind is fits one) = absurd cc
@@ -165,7 +166,7 @@ caught-in w u c back collected from place at_child slots code s kind ball found 
 pub caught : {M : Type 0} (w : World M) (b : ArenasView M) (u : StoreView M) (c : ArenasView M) (back : Back) (place at_child : ℕ) (code : Code) (s : Step) (ball : Tree) (found : Bool) (now : Now) (y : EntryData) (es : List EntryData) →
     back.kind ≡ Kind.Catch place → w.loaded.code ≡ code → ((r : Step) → slice_get code.steps.items place ≡ Some r → s ≡ r) →
     (found ≡ true → (terms : ℕ → Option Tree) (h : GoalTree) → StandsAt (tables_of terms code) code.steps.items place h → 1 < child_count h → at_child ≡ child_place h place 1) →
-    IsBack w back y es → DropsNewest w.arenas b → TellsCaught (moved w w.store b) (moved w u c) back s ball found →
+    IsBack w back y es → DropsNewest w.arenas b → TellsCaught back s ball found (change (moved w w.store b) (moved w u c) Now.Failing) →
     now ≡ (if found then Now.Going (record { place = at_child; count = 1; base = back.base; frame = back.frame }) else Now.Raising ball) → ComesTo (moved w u c) now (raise_step ball (y ∷ es))
 caught w b u c back place at_child code s ball found now y es named is_code step finds it drops tells follows_it =
     let out : Popped (moved w w.store b) back w.arenas.collected it.from y es = popped w b back y es it drops in
@@ -192,11 +193,11 @@ not-found found h k = cc
 
 -- the term of a `catch` is unified with a copy of the ball
 pub caught-told : {M : Type 0} (b : Block) (v v1 v2 u : StoreView M) (a a1 : ArenasView M) (wanted ball : Tree) (e : Places) (q r : Ref) (one : Bool) →
-    evaluated wanted e v.now.state ≡ record { tree = (evaluated wanted e v.now.state).tree; slots = e; state = v.now.state } → IsState v.now.state → Evaluates b v v1 a a1 (evaluated wanted e v.now.state) q →
+    evaluated wanted e v.now.state ≡ record { tree = (evaluated wanted e v.now.state).tree; slots = e; state = v.now.state } → IsState v.now.state → Evaluates b (between v v1 a a1) (evaluated wanted e v.now.state) q →
     Gives v1 v2 (with_variables (new_variables ball) v1.now.state) r (copy (next v1.now.state) ball) → ((p : Ref) (t : Tree) → IsTerm v2 p t → SpeaksBelow (next v2.now.state) t) → Keeps v2 u →
     ((t x : Tree) → IsState v2.now.state → IsTerm v2 q t → IsTerm v2 r x → SpeaksBelow (next v2.now.state) t → SpeaksBelow (next v2.now.state) x → Answers (unified v2.now.state t x) one u.now.state) →
     ((t x : Tree) → IsState v2.now.state → IsTerm v2 q t → IsTerm v2 r x → SpeaksBelow (next v2.now.state) t → SpeaksBelow (next v2.now.state) x → IsState u.now.state) →
-    Writes b v u a a1 e u.now.state × IsState u.now.state
+    Writes b (between v u a a1) e u.now.state × IsState u.now.state
     × Answers (unified (with_new_variables (new_variables ball) v.now.state) (evaluated wanted e v.now.state).tree (copy (next v.now.state) ball)) one u.now.state
 caught-told b v v1 v2 u a a1 wanted ball e q r one again state value_is gives below keeps unifies stays =
     let x : Evaluated = evaluated wanted e v.now.state in

@@ -23,7 +23,7 @@ use Rattle.pi_engine_code.specs.declared.code.Step.{Step}
 use Rattle.pi_engine_arenas.specs.declared.frames.Point.{Point}
 use Rattle.pi_engine_arenas.specs.declared.run.Now.{Now}
 use Rattle.pi_engine_code.specs.Code.{Tables, node_kind}
-use Rattle.pi_engine_arenas.specs.Arenas.{ArenasView, with_kind, with_collected}
+use Rattle.pi_engine_arenas.specs.Arenas.{ArenasView, with_kind, with_collected, between}
 use Rattle.pi_engine_arenas.specs.declared.arenas.Entry.{Entry}
 use Rattle.pi_meaning.specs.Machine.Configuration.{Frame, Entry as EntryData, Config, config, going, failed, raising, Strict, strict, list_level, Back as BackData}
 use Rattle.pi_meaning.specs.Machine.Step.{strict_step}
@@ -188,7 +188,7 @@ slot-is-read k e s = refl
 pub collect-answers : {M : Type 0} (w : World M) (v : StoreView M) (a b : ArenasView M) (now : Now) (i place first begins slot value other : ℕ) (step : Step) (code : Code) (r : Ref) (x : Entry M) (p : Point) (es : List EntryData) (view : View) (names : List NameSlot) (e : Places) (k : List Frame) →
     StandsGoing w p no_goals e k es → p.count ≡ 0 → p.frame ≡ 0 → IsBalanced zero es → w.arenas.level ≡ suc i → slice_get (entries_of w) i ≡ Some x → x.back.kind ≡ Kind.Strict (StrictKind.Collect place first) → w.loaded.code ≡ code →
     ((q : Step) → slice_get code.steps.items place ≡ Some q → step ≡ q) → step.node ≡ Node.Collect value other → begins ≡ slot_number x.back.base step.first_slot → slot ≡ slot_number begins value →
-    ((d : Block) (n : ℕ) (f : Places) → slot ≡ slot_number (slot_number d.base d.first) n → n < d.count → Holds w.store.now.terms w.arenas.blocks.slots d f → Evaluates d w.store v w.arenas a (slot_term (held f n) n f w.store.now.state) r) →
+    ((d : Block) (n : ℕ) (f : Places) → slot ≡ slot_number (slot_number d.base d.first) n → n < d.count → Holds w.store.now.terms w.arenas.blocks.slots d f → Evaluates d (between w.store v w.arenas a) (slot_term (held f n) n f w.store.now.state) r) →
     ((t : Tree) → IsTerm v r t → IsAcyclic (bindings v.now.state) → CollectedAs (value_of (bindings v.now.state) t) a b now) →
     (c : Config) × SilentlyTo view w.loaded.preds names (config (going no_goals e w.store.now.state k) es) c × Stands (moved w v b) now c
 collect-answers w v a b now i place first begins slot value other step code r x p es view names e k stands none last balanced level at named is_code finds node starts slot_is reads tells =
@@ -207,8 +207,8 @@ collect-answers w v a b now i place first begins slot value other step code r x 
     subst (λ q. NodeIsReadable (tables_in w.loaded) d q) own_node (own-block w x.back.base place x.back.frame (collect col.goal col.value col.into) col.places col.frames step col.own at_step).readable in
     let slots_begin : begins ≡ slot_number d.base d.first = own-slots w x.back.base place x.back.frame begins (collect col.goal col.value col.into) col.places col.frames step col.own at_step starts in
     let read : Evaluated = evaluated (var col.value) f w.store.now.state in
-    let got_it : Evaluates d w.store v w.arenas a read r =
-    subst (λ y. Evaluates d w.store v w.arenas a y r) (sym (slot-is-read col.value f w.store.now.state))
+    let got_it : Evaluates d (between w.store v w.arenas a) read r =
+    subst (λ y. Evaluates d (between w.store v w.arenas a) y r) (sym (slot-is-read col.value f w.store.now.state))
     (reads d col.value f (slot_is ∙ ap (λ n. slot_number n value) slots_begin ∙ ap (slot_number (slot_number d.base d.first)) same) readable.0 holds) in
     let sound : IsState v.now.state = subst IsState (sym got_it.writes.state) (evaluated-state (var col.value) f w.store.now.state stands.entries.state) in
     let told : CollectedAs (slot_value col.value f w.store.now.state) a b now =

@@ -21,7 +21,7 @@ use Rattle.pi_engine_code.specs.declared.code.Operand.{Operand}
 use Rattle.pi_engine_arenas.specs.declared.run.Now.{Now}
 use Rattle.pi_engine_code.specs.Code.{node_kind, operand_tree}
 use Rattle.pi_engine_arenas.specs.Frames.{point_behind, slot_number}
-use Rattle.pi_engine_arenas.specs.Arenas.{ArenasView}
+use Rattle.pi_engine_arenas.specs.Arenas.{ArenasView, between}
 use Rattle.pi_meaning.specs.Machine.Configuration.{Frame, config, raising, Entry as EntryData}
 use Rattle.pi_meaning.specs.Machine.Step.{goal_step, with_rest}
 use Rattle.pi_engine_stands.specs.Here.{Block, Holds, IsStepOf, NodeIsReadable, AreHere}
@@ -87,9 +87,9 @@ going-behind w p s g gs e k at is =
 
 -- ---- the store alone changes
 
-pub writes-kept : {M : Type 0} (b : Block) (v w : StoreView M) (a : ArenasView M) (e : Places) → Keeps v w → Holds v.now.terms a.blocks.slots b e → Writes b v w a a e w.now.state
+pub writes-kept : {M : Type 0} (b : Block) (v w : StoreView M) (a : ArenasView M) (e : Places) → Keeps v w → Holds v.now.terms a.blocks.slots b e → Writes b (between v w a a) e w.now.state
 writes-kept b v w a e keeps holds =
-    let same : Writes b v v a a e v.now.state = writes-none b v a e holds in
+    let same : Writes b (between v v a a) e v.now.state = writes-none b v a e holds in
     record {
       keeps = keeps;
       state = refl;
@@ -104,16 +104,16 @@ writes-kept b v w a e keeps holds =
 
 -- ---- a run whose block was written
 
-abbrev pub writes-to : {M : Type 0} (w : World M) (v : StoreView M) (c : ArenasView M) (b : Block) (f : Places) (s : State) → Writes b w.store v w.arenas c f s → WritesTo w v c.blocks b f s
-writes-to w v c b f s writes = subst (λ r. Writes b w.store v w.arenas r f s) writes.rest writes
+abbrev pub writes-to : {M : Type 0} (w : World M) (v : StoreView M) (c : ArenasView M) (b : Block) (f : Places) (s : State) → Writes b (between w.store v w.arenas c) f s → WritesTo w v c.blocks b f s
+writes-to w v c b f s writes = subst (λ r. Writes b (between w.store v w.arenas r) f s) writes.rest writes
 
-pub stack-moved : {M : Type 0} (w : World M) (v : StoreView M) (c : ArenasView M) (b : Block) (f : Places) (s : State) (es : List EntryData) → Writes b w.store v w.arenas c f s → IsState v.now.state →
+pub stack-moved : {M : Type 0} (w : World M) (v : StoreView M) (c : ArenasView M) (b : Block) (f : Places) (s : State) (es : List EntryData) → Writes b (between w.store v w.arenas c) f s → IsState v.now.state →
     StackStands w es → StackStands (moved w v c) es
 stack-moved w v c b f s es writes state is =
     subst (λ r. StackStands (moved w v r) es) (sym writes.rest) (stack-written w v c.blocks b f s es (writes-to w v c b f s writes) state is)
 
 pub going-moved : {M : Type 0} (w : World M) (v : StoreView M) (c : ArenasView M) (p : Point) (gs : GoalTrees) (e f : Places) (s : State) (k : List Frame) (es : List EntryData) → StackStands w es →
-    (is : GoingIs w p gs e k) → Writes is.block w.store v w.arenas c f s → GoingIs (moved w v c) p gs f k
+    (is : GoingIs w p gs e k) → Writes is.block (between w.store v w.arenas c) f s → GoingIs (moved w v c) p gs f k
 going-moved w v c p gs e f s k es stands is writes =
     subst (λ r. GoingIs (moved w v r) p gs f k) (sym writes.rest) (going-written w v c.blocks p gs e f s k es stands is (writes-to w v c is.block f s writes))
 
@@ -124,7 +124,7 @@ abbrev pub block_of : {M : Type 0} (w : World M) (p : Point) (g : GoalTree) (gs 
 block_of w p g gs e k es stands = (going-of w p (goal g gs) e w.store.now.state k stands.runs).block
 
 equal-by : {M : Type 0} (w : World M) (v : StoreView M) (c : ArenasView M) (p : Point) (s : Step) (g : GoalTree) (gs : GoalTrees) (e f : Places) (k : List Frame) (es : List EntryData) (o : Option State) (one : Bool) (now : Now) →
-    slice_get (steps_of w.loaded) p.place ≡ Some s → StackStands w es → (is : GoingIs w p (goal g gs) e k) → Writes is.block w.store v w.arenas c f v.now.state → IsState v.now.state →
+    slice_get (steps_of w.loaded) p.place ≡ Some s → StackStands w es → (is : GoingIs w p (goal g gs) e k) → Writes is.block (between w.store v w.arenas c) f v.now.state → IsState v.now.state →
     Answers o one v.now.state → now ≡ (if one then Now.Going (point_behind p s) else Now.Failing) → Stands (moved w v c) now (config (after_equal o gs f k) es)
 equal-by w v c p s g gs e f k es None one now at entries is writes state answers next =
     subst (λ r. Stands (moved w v c) r (config (after_equal None gs f k) es)) (sym (next ∙ ap (λ q. if q then Now.Going (point_behind p s) else Now.Failing) answers))
@@ -140,10 +140,10 @@ equal-by w v c p s g gs e f k es (Some r) one now at entries is writes state ans
 -- both operands evaluated, one after the other
 pub both-evaluated : {M : Type 0} (b : Block) (v1 v2 v3 : StoreView M) (a1 a2 a3 : ArenasView M) (l r : Tree) (e : Places) (q1 q2 : Ref) →
     let x : Evaluated = evaluated l e v1.now.state in
-    Evaluates b v1 v2 a1 a2 x q1 → Evaluates b v2 v3 a2 a3 (evaluated r x.slots v2.now.state) q2 → Evaluates b v1 v3 a1 a3 (evaluated r x.slots x.state) q2
+    Evaluates b (between v1 v2 a1 a2) x q1 → Evaluates b (between v2 v3 a2 a3) (evaluated r x.slots v2.now.state) q2 → Evaluates b (between v1 v3 a1 a3) (evaluated r x.slots x.state) q2
 both-evaluated b v1 v2 v3 a1 a2 a3 l r e q1 q2 first second =
     let x : Evaluated = evaluated l e v1.now.state in
-    subst (λ s. Evaluates b v1 v3 a1 a3 (evaluated r x.slots s) q2) first.writes.state
+    subst (λ s. Evaluates b (between v1 v3 a1 a3) (evaluated r x.slots s) q2) first.writes.state
     (record {
       writes = writes-then b v1 v2 v3 a1 a2 a3 x.slots (evaluated r x.slots v2.now.state).slots x.state (evaluated r x.slots v2.now.state).state first.writes second.writes;
       term = second.term;
@@ -153,7 +153,7 @@ pub equal-step : {M : Type 0} (w : World M) (v u : StoreView M) (c : ArenasView 
     s.node ≡ Node.Unify left right → slice_get (steps_of w.loaded) p.place ≡ Some s → (stands : StandsGoing w p (goal g gs) e k es) →
     let x : Evaluated = evaluated (operand_tree (tables_in w.loaded) left) e w.store.now.state in
     let y : Evaluated = evaluated (operand_tree (tables_in w.loaded) right) x.slots x.state in
-    Evaluates (block_of w p g gs e k es stands) w.store v w.arenas c y q → Keeps v u → Answers (unified y.state x.tree y.tree) one u.now.state → IsState u.now.state →
+    Evaluates (block_of w p g gs e k es stands) (between w.store v w.arenas c) y q → Keeps v u → Answers (unified y.state x.tree y.tree) one u.now.state → IsState u.now.state →
     now ≡ (if one then Now.Going (point_behind p s) else Now.Failing) → StandsAfter (moved w u c) now (goal_step view w.loaded.preds g e w.store.now.state (with_rest gs k es))
 unfolding node_kind
 equal-step w v u c p s left right q one now view g gs e k es node at stands both keeps answers state next =
@@ -163,7 +163,7 @@ equal-step w v u c p s left right q one now view g gs e k es node at stands both
     let x : Evaluated = evaluated l e w.store.now.state in
     let y : Evaluated = evaluated r x.slots x.state in
     let it : g ≡ call (codes "=") (l ∷ r ∷ []) = call-of g (codes "=") (l ∷ r ∷ []) (kind-of-node w p s g gs e k (Node.Unify left right) at is node) in
-    let all : Writes is.block w.store u w.arenas c y.slots u.now.state =
+    let all : Writes is.block (between w.store u w.arenas c) y.slots u.now.state =
     writes-then is.block w.store v u w.arenas c c y.slots y.slots y.state u.now.state both.writes (writes-kept is.block v u c y.slots keeps both.writes.holds) in
     subst (λ h. StandsAfter (moved w u c) now (goal_step view w.loaded.preds h e w.store.now.state (with_rest gs k es))) (sym it)
     (subst (λ h. StandsAfter (moved w u c) now h) (sym (equal-comes-to view w.loaded.preds l r gs e w.store.now.state k es))
@@ -181,7 +181,7 @@ fails one now p is next = next ∙ ap (λ q. if q then Now.Going p else Now.Fail
 pub throw-step : {M : Type 0} (w : World M) (v : StoreView M) (c : ArenasView M) (p : Point) (s : Step) (operand : Operand) (q : Ref) (ball : Tree) (view : View) (g : GoalTree) (gs : GoalTrees) (e : Places) (k : List Frame) (es : List EntryData) →
     s.node ≡ Node.Throw operand → slice_get (steps_of w.loaded) p.place ≡ Some s → (stands : StandsGoing w p (goal g gs) e k es) →
     let x : Evaluated = evaluated (operand_tree (tables_in w.loaded) operand) e w.store.now.state in
-    Evaluates (block_of w p g gs e k es stands) w.store v w.arenas c x q → IsState v.now.state → ball ≡ raised_for (value (bindings x.state) x.tree) →
+    Evaluates (block_of w p g gs e k es stands) (between w.store v w.arenas c) x q → IsState v.now.state → ball ≡ raised_for (value (bindings x.state) x.tree) →
     StandsAfter (moved w v c) (Now.Raising ball) (goal_step view w.loaded.preds g e w.store.now.state (with_rest gs k es))
 unfolding node_kind
 throw-step w v c p s operand q ball view g gs e k es node at stands value_is state raised =

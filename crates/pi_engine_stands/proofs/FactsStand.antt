@@ -16,13 +16,13 @@ use Rattle.pi_engine_arenas.specs.declared.arenas.Kind.{Kind}
 use Rattle.pi_engine_arenas.specs.declared.arenas.Entry.{Entry}
 use Rattle.pi_engine_arenas.specs.declared.frames.Point.{Point}
 use Rattle.pi_engine_arenas.specs.declared.run.Now.{Now}
-use Rattle.pi_engine_arenas.specs.Arenas.{ArenasView, entry_at, newest, slots_kept_by, DropsNewest}
+use Rattle.pi_engine_arenas.specs.Arenas.{ArenasView, entry_at, newest, slots_kept_by, DropsNewest, between}
 use Rattle.pi_engine_code.specs.Code.{preds_of}
 use Rattle.pi_engine_code.specs.declared.code.Predicate.{Predicate}
 use Rattle.pi_meaning.specs.Machine.Configuration.{Frame, Called, Config, config, going, failed, choice, facts_left, Back, Entry as EntryData}
 use Rattle.pi_meaning.specs.Machine.Step.{with_fact, from_unifying, later_facts, fact_tried, try_facts, try_rules, try_clauses, back_to}
 use Rattle.pi_meaning.specs.Machine.Shape.{open_level}
-use Rattle.pi_engine_facts.specs.Trying.{IsFirst, IsNext}
+use Rattle.pi_engine_facts.specs.Trying.{IsFirst, IsNext, numbered}
 use Rattle.pi_engine_stands.specs.Here.{Block, Here, Holds, AreHere, none_here, AreHeld, GoesOn}
 use Rattle.pi_engine_stands.specs.Stands.{World, tables_in, steps_of, entries_of, now_here, Agrees, CallStands, KindIs, facts_kind, StackIs, StackStands, GoingIs, NowIs, going_now, failing_now, Stands}
 use Rattle.pi_engine_stands.specs.Evaluates.{Writes}
@@ -37,6 +37,7 @@ use Rattle.pi_engine_stands.proofs.RulesTaken.{StackAfter, stack-kept, call-next
 use Rattle.pi_engine_stands.proofs.CallsTried.{call-ended}
 use Rattle.pi_engine_stands.proofs.CallsStay.{call-stays}
 use Rattle.pi_engine_stands.proofs.EqualStands.{writes-kept, stack-moved, going-moved}
+use Rattle.pi_engine_arenas.specs.Frames.{call_at}
 
 -- ---- the machine as data
 
@@ -109,7 +110,7 @@ fact-stands w v u a p base frame number called cs s k es all again is predicate 
       stack = after.stack;
     } in
     let runs : GoingIs w1 point no_goals [] k = nothing-goes w v a after.below p base frame number called cs s k es again is predicate after.passes after.under in
-    let writes : Writes runs.block v u a a [] u.now.state = writes-kept runs.block v u a [] keeps runs.behind.slots in
+    let writes : Writes runs.block (between v u a a) [] u.now.state = writes-kept runs.block v u a [] keeps runs.behind.slots in
     record {
       entries = stack-moved w1 u a runs.block [] u.now.state all writes state entries;
       runs = going_now (going-moved w1 u a point no_goals [] [] u.now.state k all entries runs writes);
@@ -206,7 +207,7 @@ record Kept {M : Type 0} (w : World M) (x : StoreView M) (b : ArenasView M) (ts 
 
 later-kept : {M : Type 0} (w : World M) (x : StoreView M) (b : ArenasView M) (p base frame from number slots : ℕ) (pred : PredTree) (predicate : Predicate) (ts : Trees) (cs : List ClauseTree) (s : State) (k : List Frame) (es : List EntryData) (again : Bool) (next : Option ℕ) →
     (is : CallIs w p base frame from (record { function = false; args = ts }) cs s k es again) → slice_get w.loaded.preds p ≡ Some pred → slice_get w.loaded.code.predicates.items p ≡ Some predicate → slots ≡ base + is.call.call.pred.arity → predicate.first ≤ number →
-    IsNext ts s pred.clauses predicate.first number predicate.end next → LeavesLater w.order w.store x w.arenas b slots p base frame again next → Kept w x b ts (from_unifying ts s (drop (number - predicate.first) pred.clauses)) s k es
+    IsNext ts s (numbered pred.clauses predicate.first predicate.end) number next → LeavesLater w.order (between w.store x w.arenas b) (call_at p base frame) slots again next → Kept w x b ts (from_unifying ts s (drop (number - predicate.first) pred.clauses)) s k es
 unfolding open_level
 later-kept w x b p base frame from number slots pred predicate ts cs s k es again None is at there fits low none leaves =
     subst (λ ds. Kept w x b ts ds s k es) (sym none)
@@ -235,8 +236,8 @@ behind-of cs behind c first number low here = sym (ap (drop 1) here) ∙ drop-dr
 
 pub fact-taken : {M : Type 0} (w : World M) (v x u : StoreView M) (b : ArenasView M) (p base frame from number slots : ℕ) (pred : PredTree) (predicate : Predicate) (ts : Trees) (cs : List ClauseTree) (s : State) (k : List Frame) (es : List EntryData) (again : Bool)
     (next : Option ℕ) (one : Bool) (now : Now) → (is : CallIs w p base frame from (record { function = false; args = ts }) cs s k es again) → s ≡ w.store.now.state → Stays w.store v → slice_get w.loaded.preds p ≡ Some pred → slice_get w.loaded.code.predicates.items p ≡ Some predicate →
-    predicate.first ≤ from → slots ≡ base + is.call.call.pred.arity → (found : IsFirst ts s pred.clauses predicate.first from predicate.end number) → IsNext ts s pred.clauses predicate.first (number + 1) predicate.end next →
-    LeavesLater w.order v x w.arenas b slots p base frame again next → Keeps x u → Answers (with_fact ts x.now.state found.fact) one u.now.state → (one ≡ true → IsState u.now.state) →
+    predicate.first ≤ from → slots ≡ base + is.call.call.pred.arity → (found : IsFirst ts s (numbered pred.clauses predicate.first predicate.end) from number) → IsNext ts s (numbered pred.clauses predicate.first predicate.end) (number + 1) next →
+    LeavesLater w.order (between v x w.arenas b) (call_at p base frame) slots again next → Keeps x u → Answers (with_fact ts x.now.state found.fact) one u.now.state → (one ≡ true → IsState u.now.state) →
     now ≡ (if one then Now.Going (record { place = 0; count = 0; base = base; frame = frame }) else Now.Failing) → Stands (moved w u b) now (try_facts ts cs (back_to [] s k) es)
 fact-taken w v x u b p base frame from number slots pred predicate ts cs s k es again next one now is same stays at there low fits found later leaves keeps answers state comes =
     let called : Called = record { function = false; args = ts } in

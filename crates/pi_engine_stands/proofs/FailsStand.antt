@@ -14,6 +14,7 @@ use Rattle.pi_engine_stands.specs.Here.{Here}
 use Rattle.pi_engine_stands.specs.Stands.{World, Loaded, now_here, KindIs, rules_kind, facts_kind, branches_kind, once_kind, not_kind, if_kind, guard_kind, apply_kind, collect_kind, count_kind, catch_kind, exit_kind, Stands}
 use Rattle.pi_engine_stands.specs.Fails.{ComesTo, IsBack, GoesOnWithBranch, EndsLevel}
 use Rattle.pi_engine_stands.proofs.BackStand.{back-kind}
+use Rattle.pi_engine_stands.specs.Changes.{change}
 
 -- without an entry the run is done
 pub fail-none : {M : Type 0} (w : World M) (now : Now) (es : List EntryData) → es ≡ [] → now ≡ Now.Ended RunEnd.Done → ComesTo w now (fail_step es)
@@ -39,7 +40,7 @@ branch-step : (y : EntryData) (gs : GoalTrees) (b : BackData) (es : List EntryDa
 unfolding fail_step
 branch-step y gs b es is = ap (λ q. fail_step (q ∷ es)) is
 
-pub branches-fail : {M : Type 0} (w after : World M) (back : Back) (place n : ℕ) (y : EntryData) (es : List EntryData) (now : Now) → back.kind ≡ Kind.Branches place n → IsBack w back y es → GoesOnWithBranch w after back now → ComesTo after now (fail_step (y ∷ es))
+pub branches-fail : {M : Type 0} (w after : World M) (back : Back) (place n : ℕ) (y : EntryData) (es : List EntryData) (now : Now) → back.kind ≡ Kind.Branches place n → IsBack w back y es → GoesOnWithBranch back (change w after now) → ComesTo after now (fail_step (y ∷ es))
 branches-fail w after back place n y es now named it goes =
     let is : (gs : GoalTrees) × (b : BackData) × (y ≡ choice (branches_left gs) b) =
     branches-are w.loaded w.arenas.collected (now_here w) w.store.now.state back.base back.frame back.blocks.slots it.from (length w.arenas.collected) place n back.kind y named (back-kind w back y es it) in
@@ -64,7 +65,7 @@ strict-step : (y : EntryData) (s : Strict) (b : BackData) (es : List EntryData) 
 unfolding fail_step
 strict-step y s b es is = ap (λ q. fail_step (q ∷ es)) is
 
-pub strict-fails : {M : Type 0} (w after : World M) (back : Back) (s : StrictKind) (y : EntryData) (es : List EntryData) (now : Now) → back.kind ≡ Kind.Strict s → IsBack w back y es → EndsLevel w after back now → ComesTo after now (fail_step (y ∷ es))
+pub strict-fails : {M : Type 0} (w after : World M) (back : Back) (s : StrictKind) (y : EntryData) (es : List EntryData) (now : Now) → back.kind ≡ Kind.Strict s → IsBack w back y es → EndsLevel back (change w after now) → ComesTo after now (fail_step (y ∷ es))
 strict-fails w after back s y es now named it ends =
     let is : (level : Strict) × (b : BackData) × (y ≡ strict level b) =
     strict-is w.loaded w.arenas.collected (now_here w) w.store.now.state back.base back.frame back.blocks.slots it.from (length w.arenas.collected) back.kind s y named (back-kind w back y es it) in

@@ -29,7 +29,7 @@ use Rattle.pi_meaning.specs.Machine.Next.{some_ticks}
 use Rattle.pi_engine_stands.specs.Here.{Block, AreHere, none_here, value_here}
 use Rattle.pi_engine_stands.specs.Stands.{IsNumberOf, HasNumber, IsCodeOf, tables_in, World, steps_of, NowIs, going_now, telling_now, failing_now, raising_now, StackStands, Stands, StandsGoing, GoingIs}
 use Rattle.pi_engine_stands.specs.Makes.{StandsAfter, RunsGoal, RunsGoalIn}
-use Rattle.pi_engine_stands.specs.Goes.{counted, spent, TicksUnless, HasNone, IsAt, Goes, IsSpent, TicksOn, AtGoal, GoalGoes, IsSilent}
+use Rattle.pi_engine_stands.specs.Goes.{counted, spent, TicksUnless, HasNone, IsAt, Goes, IsSpent, TicksOn, AtGoal, GoalGoes, IsSilent, counting}
 use Rattle.pi_engine_stands.proofs.FramesStand.{going-of, going-size}
 use Rattle.pi_engine_stands.proofs.EqualStands.{kind-of-node, going-behind, node-readable}
 use Rattle.pi_engine_code.specs.declared.code.Predicate.{Predicate}
@@ -40,6 +40,7 @@ use Rattle.pi_engine_stands.proofs.SilentSteps.{silent-step}
 use Rattle.pi_engine_stands.proofs.ApplyRuns.{Applies, applies, apply-form}
 use Rattle.pi_meaning.proofs.Machine.LeadLemmas.{leads-none, leads-silent, step-silent, step-ticks, step-enters, step-at_tick, good-silent, good-tick, step-deepens, good-deeper}
 use Rattle.pi_meaning.proofs.Machine.GoodSteps.{step-good}
+use Rattle.pi_engine_stands.specs.Changes.{change}
 
 -- ---- where a run is
 
@@ -126,7 +127,7 @@ not-silent : (n : Node) (o : Operand) → IsSilent n → n ≢ Node.Value o
 not-silent n o silent same = subst IsSilent same silent
 
 -- a silent goal is run
-pub runs-silent : {M : Type 0} (before after : World M) (p : Point) (s : Step) (now : Now) (mode : Mode) (b : Budget) → before.loaded ≡ after.loaded → IsSilent s.node → RunsGoalIn mode before after p s now → GoalGoes mode b b before after p s now
+pub runs-silent : {M : Type 0} (before after : World M) (p : Point) (s : Step) (now : Now) (mode : Mode) (b : Budget) → before.loaded ≡ after.loaded → IsSilent s.node → RunsGoalIn mode p s (change before after now) → GoalGoes mode b b p s (change before after now)
 unfolding step
 runs-silent before after p s now mode b same silent runs v fits names c is =
     let it : GoalThere before p c = goal-there before p s c is (λ o. not-silent s.node o silent) in
@@ -192,7 +193,7 @@ tick-form w p s c v names is node it =
     ∙ ap (λ g. goal_step v w.loaded.preds g it.e w.store.now.state (with_rest it.gs it.k c.stack))
     (tick-of it.g (kind-of-node w p s it.g it.gs it.e it.k Node.Tick is.at (going-of w p _ it.e w.store.now.state it.k it.stands.runs) node))
 
-pub tick-passes : {M : Type 0} (w : World M) (p q : Point) (s : Step) (mode : Mode) (old new : Budget) → s.node ≡ Node.Tick → counted mode old new ≡ 1 → (p.place + s.size < 2 ^ 32 → q ≡ point_behind p s) → GoalGoes mode old new w w p s (Now.Going q)
+pub tick-passes : {M : Type 0} (w : World M) (p q : Point) (s : Step) (mode : Mode) (old new : Budget) → s.node ≡ Node.Tick → counted mode old new ≡ 1 → (p.place + s.size < 2 ^ 32 → q ≡ point_behind p s) → GoalGoes mode old new p s (change w w (Now.Going q))
 tick-passes w p q s mode old new node one next v fits names c is =
     let it : GoalThere w p c = goal-there w p s c is (λ o. no-value s.node Node.Tick o node (λ h. absurd cc)) in
     let runs : GoingIs w p (goal it.g it.gs) it.e it.k = going-of w p _ it.e w.store.now.state it.k it.stands.runs in
@@ -205,7 +206,7 @@ tick-passes w p q s mode old new node one next v fits names c is =
       spent = tt;
     }
 
-pub tick-refused : {M : Type 0} (w : World M) (p : Point) (s : Step) (mode : Mode) (old new : Budget) (now : Now) → s.node ≡ Node.Tick → new ≡ old → now ≡ Now.Ended (spent mode) → HasNone mode old → GoalGoes mode old new w w p s now
+pub tick-refused : {M : Type 0} (w : World M) (p : Point) (s : Step) (mode : Mode) (old new : Budget) (now : Now) → s.node ≡ Node.Tick → new ≡ old → now ≡ Now.Ended (spent mode) → HasNone mode old → GoalGoes mode old new p s (change w w now)
 tick-refused w p s mode old new now node same ended none v fits names c is =
     let it : GoalThere w p c = goal-there w p s c is (λ o. no-value s.node Node.Tick o node (λ h. absurd cc)) in
     record {
@@ -227,7 +228,7 @@ unfolding step
 by-goal w p c v names it = ap (step v w.loaded.preds names) it.is
 
 pub call-counted : {M : Type 0} (w after : World M) (p : Point) (s : Step) (now : Now) (c : Config) (v : View) (names : List NameSlot) (quiet : Bool) (mode : Mode) (old new : Budget) (x y : Now) → w.loaded ≡ after.loaded → AtGoal w p s c → CallThere w p c v names quiet →
-    RunsGoal w after p s now → TicksUnless quiet mode old new x y true → TicksOn v names mode old new after now c
+    RunsGoal p s (change w after now) → TicksUnless quiet (counting mode old new) x y true → TicksOn v names mode old new after now c
 call-counted w after p s now c v names true mode old new x y same is there_it runs ticks =
     let stands : Stands after now there_it.next = subst (StandsAfter after now) there_it.comes (runs v there_it.it.g there_it.it.gs there_it.it.e there_it.it.k c.stack is.at there_it.it.stands) in
     record {
@@ -244,7 +245,7 @@ call-counted w after p s now c v names false mode old new x y same is there_it r
     }
 
 pub call-refused : {M : Type 0} (w : World M) (p : Point) (s : Step) (now : Now) (c : Config) (v : View) (names : List NameSlot) (quiet : Bool) (mode : Mode) (old new : Budget) (x : Now) → AtGoal w p s c → CallThere w p c v names quiet →
-    TicksUnless quiet mode old new x now false → TicksOn v names mode old new w now c
+    TicksUnless quiet (counting mode old new) x now false → TicksOn v names mode old new w now c
 call-refused w p s now c v names true mode old new x is there_it ticks = absurd cc
 call-refused w p s now c v names false mode old new x is there_it ticks =
     record {

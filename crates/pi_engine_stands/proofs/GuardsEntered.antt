@@ -14,7 +14,7 @@ use Rattle.pi_engine_code.specs.declared.code.Step.{Step}
 use Rattle.pi_engine_code.specs.declared.code.Predicate.{Predicate}
 use Rattle.pi_engine_arenas.specs.declared.run.Now.{Now}
 use Rattle.pi_engine_code.specs.Code.{Tables}
-use Rattle.pi_engine_arenas.specs.Arenas.{ArenasView, newest, opened}
+use Rattle.pi_engine_arenas.specs.Arenas.{ArenasView, newest, opened, between, keeping}
 use Rattle.pi_engine_arenas.specs.declared.arenas.Entry.{Entry}
 use Rattle.pi_meaning.specs.Machine.Configuration.{Frame, Called, strict, guard_level, Back as BackData, going, Entry as EntryData}
 use Rattle.pi_meaning.specs.Machine.Step.{back_to, guarding, inside, trial}
@@ -79,7 +79,7 @@ found-ends l r x kind base is is_kind begins = ap (entry_ends l) is ∙ ap (λ m
 
 pub guard-entered : {M : Type 0} (w : World M) (v : StoreView M) (a : ArenasView M) (p base frame number slots guard : ℕ) (called : Called) (c : ClauseTree) (cs : List ClauseTree) (s : State) (k : List Frame) (es : List EntryData) (again : Bool)
     (predicate : Predicate) (rule : Rule) (e : Places) → (applies : Applies w p base frame number called c cs s k es again predicate rule e) → rule.guard ≡ Some guard → s ≡ w.store.now.state →
-    slots ≡ base + applies.is.call.call.pred.arity → KeepsCall w.order w.store v w.arenas a slots base frame (Kind.Strict (Strict.Guard p number)) again →
+    slots ≡ base + applies.is.call.call.pred.arity → KeepsCall w.order (between w.store v w.arenas a) (keeping slots base frame (Kind.Strict (Strict.Guard p number))) again →
     Stands (moved w v (opened a)) (Now.Going (record { place = guard; count = 1; base = base; frame = 0 })) (guarding c.guard (trial called c cs (back_to [] s k) es) e)
 unfolding open_level
 guard-entered w v a p base frame number slots guard called c cs s k es again predicate rule e applies is_guard same at keeps =

@@ -31,6 +31,7 @@ use Rattle.pi_terms.proofs.OptionLemmas.{none-some, one-some}
 use Rattle.pi_engine_stands.proofs.FramesStand.{going-of}
 use Rattle.pi_engine_stands.proofs.FollowStand.{no-value}
 use Rattle.pi_engine_stands.proofs.OnceStand.{level-answers}
+use Rattle.pi_engine_stands.specs.Changes.{change}
 
 -- ---- the condition of a rule
 
@@ -40,7 +41,7 @@ guard-step called c cs e t above b below = refl
 
 guard-makes : {M : Type 0} (w : World M) (v : StoreView M) (b : ArenasView M) (i from predicate number : ℕ) (x : Entry M) (back : Back) (kind : Kind) (s : Strict) (d : BackData) (now : Now) (es above below : List EntryData) (f : Places) → StackStands w es → x.back ≡ back →
     slice_get (entries_of w) i ≡ Some x → kind ≡ Kind.Strict (StrictKind.Guard predicate number) → back.kind ≡ kind → StackIs w (suc i) (length w.arenas.collected) (strict s d ∷ below) → length below ≡ i → Agrees w (suc i) (now_here w) →
-    Holds w.store.now.terms w.arenas.blocks.slots (rule_block w.loaded predicate number x.back.base) f → TakesGuarded w (moved w v b) (suc i) back predicate number now →
+    Holds w.store.now.terms w.arenas.blocks.slots (rule_block w.loaded predicate number x.back.base) f → TakesGuarded (suc i) back predicate number (change w (moved w v b) now) →
     KindIs w.loaded w.arenas.collected (back_here w x) (w.store.at_mark x.mark).state x.back.base x.back.frame x.back.blocks.slots from (length w.arenas.collected) kind (strict s d) →
     Stands (moved w v b) now (strict_step s f w.store.now.state above d below)
 guard-makes w v b i from predicate number x back kind s d now es above below f stands is_back at named is_kind stack long agrees holds takes (once_kind own one) = absurd cc
@@ -69,7 +70,7 @@ guard-makes w v b i from predicate number x back kind s d now es above below f s
 
 pub guard-answers : {M : Type 0} (w : World M) (v : StoreView M) (b : ArenasView M) (i predicate number : ℕ) (x : Entry M) (back : Back) (now : Now) (p : Point) (es : List EntryData) (view : View) (names : List NameSlot) (e : Places) (k : List Frame) →
     StandsGoing w p no_goals e k es → p.count ≡ 0 → p.frame ≡ 0 → IsBalanced zero es → w.arenas.level ≡ suc i → slice_get (entries_of w) i ≡ Some x → x.back ≡ back → back.kind ≡ Kind.Strict (StrictKind.Guard predicate number) →
-    TakesGuarded w (moved w v b) (suc i) back predicate number now →
+    TakesGuarded (suc i) back predicate number (change w (moved w v b) now) →
     (c : Config) × SilentlyTo view w.loaded.preds names (config (going no_goals e w.store.now.state k) es) c × Stands (moved w v b) now c
 guard-answers w v b i predicate number x back now p es view names e k stands none last balanced level at is_back named takes =
     let kind_is : x.back.kind ≡ Kind.Strict (StrictKind.Guard predicate number) = ap (λ r. r.kind) is_back ∙ named in

@@ -38,6 +38,7 @@ use Rattle.pi_engine_stands.proofs.PointLemmas.{first-of}
 use Rattle.pi_engine_stands.proofs.FramesStand.{going-of}
 use Rattle.pi_engine_stands.proofs.GoalsGo.{is-at, unspent, silent-ticks}
 use Rattle.pi_meaning.proofs.Machine.LeadLemmas.{leads-none, leads-on, leads-silent, step-silent, step-answers, step-ends, good-silent, good-answer}
+use Rattle.pi_engine_stands.specs.Changes.{change}
 
 -- ---- silent steps in a row
 
@@ -99,13 +100,13 @@ from-done w after p v names c d now same is it steps stands =
       unspent = λ mode b. unspent after mode b now d stands;
     }
 
-pub follows-goes : {M : Type 0} (w after : World M) (p : Point) (v : View) (names : List NameSlot) (c : Config) (now : Now) → w.loaded ≡ after.loaded → PointIsDone w p c → GoesFrom w after p now → GoesSilently v names after now c
+pub follows-goes : {M : Type 0} (w after : World M) (p : Point) (v : View) (names : List NameSlot) (c : Config) (now : Now) → w.loaded ≡ after.loaded → PointIsDone w p c → GoesFrom p (change w after now) → GoesSilently v names after now c
 follows-goes w after p v names c now same is goes =
     let it : DoneThere w p c = done-there w p c is in
     let to = goes v names it.e it.k c.stack it.stands in
     from-done w after p v names c to.0 now same is it to.1 to.2
 
-pub level-goes : {M : Type 0} (w after : World M) (p : Point) (v : View) (names : List NameSlot) (c : Config) (now : Now) → w.loaded ≡ after.loaded → PointIsDone w p c → frame_at w.arenas.frames p.frame ≡ None → 0 < w.arenas.level → AnswersOpen w after now → GoesSilently v names after now c
+pub level-goes : {M : Type 0} (w after : World M) (p : Point) (v : View) (names : List NameSlot) (c : Config) (now : Now) → w.loaded ≡ after.loaded → PointIsDone w p c → frame_at w.arenas.frames p.frame ≡ None → 0 < w.arenas.level → AnswersOpen (change w after now) → GoesSilently v names after now c
 level-goes w after p v names c now same is none some goes =
     let it : DoneThere w p c = done-there w p c is in
     let to = goes some v names p it.e it.k c.stack it.stands is.none (frame-none w p c is none) is.good.balanced in
@@ -116,10 +117,10 @@ pub record QueryTold {M : Type 0} (w after : World M) (v : View) (names : List N
   pub solution : Solution
   pub leads : Leads v w.loaded.preds names [] c (config (going no_goals solution.slots solution.state []) c.stack)
   pub good : IsGood (config (going no_goals solution.slots solution.state []) c.stack)
-  pub is : IsTold v w.loaded.preds names solution c.stack after told
+  pub is : IsTold v (change w after Now.Failing) names solution c.stack told
 
 query-told : {M : Type 0} (w after : World M) (p : Point) (v : View) (names : List NameSlot) (c : Config) (told : Result Answer Tree) → PointIsDone w p c → frame_at w.arenas.frames p.frame ≡ None → w.arenas.level ≡ 0 → AreNames w.loaded.query_slots names →
-    AnswersQuery w after names told → QueryTold w after v names c told
+    AnswersQuery names told (change w after Now.Failing) → QueryTold w after v names c told
 query-told w after p v names c told is none no_level are answered_so =
     let it : DoneThere w p c = done-there w p c is in
     let to = answered_so v p it.e it.k c.stack it.stands is.none (frame-none w p c is none) no_level are in
@@ -128,7 +129,7 @@ query-told w after p v names c told is none no_level are answered_so =
     record { solution = to.0; leads = leads.0; good = leads.1; is = to.2 }
 
 pub query-answers : {M : Type 0} (w after : World M) (p : Point) (v : View) (names : List NameSlot) (c : Config) (a : Answer) → w.loaded ≡ after.loaded → PointIsDone w p c → frame_at w.arenas.frames p.frame ≡ None → w.arenas.level ≡ 0 → AreNames w.loaded.query_slots names →
-    AnswersQuery w after names (Ok a) → (x : Solution) × Tells names x a × Goes v names (answered x ∷ []) after Now.Failing c
+    AnswersQuery names (Ok a) (change w after Now.Failing) → (x : Solution) × Tells names x a × Goes v names (answered x ∷ []) after Now.Failing c
 query-answers w after p v names c a same is none no_level are answered_so =
     let it : QueryTold w after v names c (Ok a) = query-told w after p v names c (Ok a) is none no_level are answered_so in
     let preds : List PredTree = w.loaded.preds in
@@ -150,7 +151,7 @@ unfolding step raise_step
 raised-ends v preds names ball = refl
 
 pub query-raised : {M : Type 0} (w after : World M) (p : Point) (v : View) (names : List NameSlot) (c : Config) (ball : Tree) → w.loaded ≡ after.loaded → PointIsDone w p c → frame_at w.arenas.frames p.frame ≡ None → w.arenas.level ≡ 0 → AreNames w.loaded.query_slots names →
-    AnswersQuery w after names (Err ball) → Goes v names [] after (Now.Ended (RunEnd.Raised ball)) c
+    AnswersQuery names (Err ball) (change w after Now.Failing) → Goes v names [] after (Now.Ended (RunEnd.Raised ball)) c
 query-raised w after p v names c ball same is none no_level are answered_so =
     let it : QueryTold w after v names c (Err ball) = query-told w after p v names c (Err ball) is none no_level are answered_so in
     let preds : List PredTree = w.loaded.preds in

@@ -12,7 +12,7 @@ use Rattle.pi_engine_arenas.specs.declared.frames.Point.{Point}
 use Rattle.pi_engine_code.specs.declared.code.Rule.{Rule}
 use Rattle.pi_engine_code.specs.declared.code.Predicate.{Predicate}
 use Rattle.pi_engine_arenas.specs.declared.run.Now.{Now}
-use Rattle.pi_engine_arenas.specs.Arenas.{ArenasView, newest, slots_kept_by}
+use Rattle.pi_engine_arenas.specs.Arenas.{ArenasView, newest, slots_kept_by, between, keeping}
 use Rattle.pi_meaning.specs.Machine.Configuration.{Frame, Called, rules_left, choice, config, after_body, going, Entry as EntryData}
 use Rattle.pi_meaning.specs.Machine.Step.{run_goal, back_to, later_rules, taken, trial}
 use Rattle.pi_meaning.specs.Machine.Shape.{open_level}
@@ -160,7 +160,7 @@ no-length (x ∷ xs) h = absurd (omega (arith, h))
 -- the rules behind it stay
 pub rule-kept : {M : Type 0} (w : World M) (v : StoreView M) (a : ArenasView M) (p base frame number next slots : ℕ) (called : Called) (c : ClauseTree) (cs : List ClauseTree) (s : State) (k : List Frame) (es : List EntryData) (again : Bool)
     (predicate : Predicate) (rule : Rule) (e : Places) → (applies : Applies w p base frame number called c cs s k es again predicate rule e) → rule.leaves_others ≡ true → next ≡ number + 1 → next < predicate.end →
-    slots ≡ base + applies.is.call.call.pred.arity → KeepsCall w.order w.store v w.arenas a slots base frame (Kind.Rules p next) again →
+    slots ≡ base + applies.is.call.call.pred.arity → KeepsCall w.order (between w.store v w.arenas a) (keeping slots base frame (Kind.Rules p next)) again →
     Stands (moved w v a) (Now.Going (record { place = rule.body; count = rule.goals; base = base; frame = frame })) (taken (trial called c cs (back_to [] s k) es) e w.store.now.state)
 unfolding open_level
 rule-kept w v a p base frame number next slots called c cs s k es again predicate rule e applies others is_next more at keeps =

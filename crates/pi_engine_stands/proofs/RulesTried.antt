@@ -25,6 +25,8 @@ use Rattle.pi_engine_stands.proofs.RulesTaken.{predicate-of, StackAfter}
 use Rattle.pi_engine_stands.proofs.CallsStand.{arguments-move}
 use Rattle.pi_engine_stands.proofs.CallsTried.{call-tried, call-passed, call-ended, below-moves}
 use Rattle.pi_engine_stands.proofs.GuardsAnswered.{rule-of, rule-found}
+use Rattle.pi_engine_stands.specs.Changes.{change}
+use Rattle.pi_engine_arenas.specs.Frames.{call_at}
 
 -- what is left to try comes to the same as the whole
 pub record Trying {M : Type 0} (w : World M) (p base frame number : ℕ) (called : Called) (s : State) (k : List Frame) (es : List EntryData) (again : Bool) (whole : Config) : Type 0 where
@@ -169,7 +171,7 @@ same-arity w p base frame number called cs s k es again predicate is same = ap (
 
 pub trying-passes : {M : Type 0} (w : World M) (v : StoreView M) (b : ArenasView M) (p base frame number : ℕ) (called : Called) (s : State) (k : List Frame) (es : List EntryData) (again : Bool) (whole : Config) (predicate : Predicate) (rule : Rule) →
     Trying w p base frame number called s k es again whole → IsFound w p predicate → number < predicate.end → slice_get w.loaded.code.rules.items number ≡ Some rule →
-    MatchesHead w (moved w v b) p base frame number predicate.arity rule false → Trying (moved w v b) p base frame (number + 1) called s k es again whole
+    MatchesHead (call_at p base frame) number predicate.arity rule false (change w (moved w v b) Now.Failing) → Trying (moved w v b) p base frame (number + 1) called s k es again whole
 trying-passes w v b p base frame number called s k es again whole predicate rule trying known more found matches =
     let same : trying.is.call.call.predicate ≡ predicate = sym (known trying.is.call.call.predicate trying.is.call.call.is_predicate) in
     let n : NextRule w p base frame number called s k es again whole = next-rule w p base frame number called s k es again whole predicate trying same more in
@@ -181,7 +183,7 @@ trying-passes w v b p base frame number called s k es again whole predicate rule
 
 pub trying-applies : {M : Type 0} (w : World M) (v : StoreView M) (b : ArenasView M) (p base frame number : ℕ) (called : Called) (s : State) (k : List Frame) (es : List EntryData) (again : Bool) (whole : Config) (predicate : Predicate) (rule : Rule) →
     Trying w p base frame number called s k es again whole → IsFound w p predicate → number < predicate.end → slice_get w.loaded.code.rules.items number ≡ Some rule →
-    MatchesHead w (moved w v b) p base frame number predicate.arity rule true → RuleApplies (moved w v b) p base frame number called s k es again whole predicate rule × (s ≡ v.now.state)
+    MatchesHead (call_at p base frame) number predicate.arity rule true (change w (moved w v b) Now.Failing) → RuleApplies (moved w v b) p base frame number called s k es again whole predicate rule × (s ≡ v.now.state)
 trying-applies w v b p base frame number called s k es again whole predicate rule trying known more found matches =
     let same : trying.is.call.call.predicate ≡ predicate = sym (known trying.is.call.call.predicate trying.is.call.call.is_predicate) in
     let n : NextRule w p base frame number called s k es again whole = next-rule w p base frame number called s k es again whole predicate trying same more in

@@ -11,7 +11,7 @@ use Rattle.pi_constraints.specs.declared.store.Ref.{Ref}
 use Rattle.pi_engine_code.specs.declared.code.Step.{Step}
 use Rattle.pi_engine_arenas.specs.declared.run.Now.{Now}
 use Rattle.pi_engine_arenas.specs.Blocks.{BlocksView, KeepsBlocks}
-use Rattle.pi_engine_arenas.specs.Arenas.{ArenasView}
+use Rattle.pi_engine_arenas.specs.Arenas.{ArenasView, between}
 use Rattle.pi_meaning.specs.Machine.Configuration.{Frame, Entry as EntryData, config, going}
 use Rattle.pi_engine_stands.specs.Here.{Block, block_end, Holds}
 use Rattle.pi_engine_stands.specs.Stands.{World, now_here, steps_of, block_at, Agrees, GoalStands, StackStands, Stands, NowIs, going_now}
@@ -28,7 +28,7 @@ use Rattle.pi_engine_stands.proofs.WrittenGoals.{own-slots, GoalWritten, goal-wr
 -- what a write to a slot does
 pub slot-written : {M : Type 0} (b : Block) (v w : StoreView M) (a : ArenasView M) (new : BlocksView) (e : Places) (k slot : ℕ) (r : Ref) (x : Tree) (s : State) →
     slot ≡ b.base + b.first + k → k < b.count → Holds v.now.terms a.blocks.slots b e → Keeps v w → w.now.state ≡ s → IsTerm w r x → new.slots ≡ set a.blocks.slots slot (Some r) → new.kept ≡ a.blocks.kept → KeepsBlocks a.blocks new →
-    Writes b v w a (with_blocks a new) (set e k (Some x)) s
+    Writes b (between v w a (with_blocks a new)) (set e k (Some x)) s
 slot-written b v w a new e k slot r x s at within holds keeps state term slots kept stays =
     let now : new.slots ≡ set a.blocks.slots (b.base + b.first + k) (Some r) = slots ∙ ap (λ i. set a.blocks.slots i (Some r)) at in
     record {
@@ -55,7 +55,7 @@ given w u new base place frame into first slot step r x s g e k es stands own ag
     let f : Places = slice_set e into (Some x) in
     let there : slot ≡ b.base + b.first + into =
     slot-is b into slot (length w.arenas.blocks.slots) (is ∙ ap (λ n. slot_number n into) (own-slots w base place frame first g e k step own at begins)) within own.behind.slots.within most in
-    let writes : Writes b w.store u w.arenas (with_blocks w.arenas new) f s = slot-written b w.store u w.arenas new e into slot r x s there within own.behind.slots keeps state term slots kept stays in
+    let writes : Writes b (between w.store u w.arenas (with_blocks w.arenas new)) f s = slot-written b w.store u w.arenas new e into slot r x s there within own.behind.slots keeps state term slots kept stays in
     let it : GoalWritten (moved w u (with_blocks w.arenas new)) base place frame g f k = goal-written w u (with_blocks w.arenas new) base place frame g e f s k es stands own agrees writes in
     record {
       entries = stack-moved w u (with_blocks w.arenas new) b f s es writes (subst IsState (sym state) sound) stands;

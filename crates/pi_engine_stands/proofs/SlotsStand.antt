@@ -11,7 +11,7 @@ use Rattle.pi_constraints.specs.Evaluation.{slot_term}
 use Rattle.pi_constraints.specs.declared.store.Ref.{Ref}
 use Rattle.pi_unify.proofs.KeepsLemmas.{keeps_none, keeps_then}
 use Rattle.pi_engine_arenas.specs.Blocks.{BlocksView, KeepsBlocks}
-use Rattle.pi_engine_arenas.specs.Arenas.{ArenasView}
+use Rattle.pi_engine_arenas.specs.Arenas.{ArenasView, between}
 use Rattle.pi_engine_stands.specs.Here.{Block, block_end, AreHeld, Holds}
 use Rattle.pi_engine_arenas.specs.Frames.{slot_number}
 use Rattle.pi_engine_stands.specs.Evaluates.{with_blocks, Writes, Evaluates}
@@ -21,11 +21,11 @@ use Rattle.pi_terms.proofs.ListLemmas.{take-set}
 
 -- ---- one after the other
 
-pub writes-none : {M : Type 0} (b : Block) (v : StoreView M) (a : ArenasView M) (e : Places) → Holds v.now.terms a.blocks.slots b e → Writes b v v a a e v.now.state
+pub writes-none : {M : Type 0} (b : Block) (v : StoreView M) (a : ArenasView M) (e : Places) → Holds v.now.terms a.blocks.slots b e → Writes b (between v v a a) e v.now.state
 writes-none b v a e holds =
     record { keeps = keeps_none v; state = refl; holds = holds; as_many = refl; front = refl; back = refl; blocks = keeps_same a.blocks; kept = refl; rest = refl }
 
-pub writes-then : {M : Type 0} (b : Block) (v w x : StoreView M) (a c d : ArenasView M) (e f : Places) (s t : State) → Writes b v w a c e s → Writes b w x c d f t → Writes b v x a d f t
+pub writes-then : {M : Type 0} (b : Block) (v w x : StoreView M) (a c d : ArenasView M) (e f : Places) (s t : State) → Writes b (between v w a c) e s → Writes b (between w x c d) f t → Writes b (between v x a d) f t
 writes-then b v w x a c d e f s t one two =
     record {
       keeps = keeps_then v w x one.keeps two.keeps;
@@ -113,22 +113,22 @@ none-held t (Some x) h = absurd h
 
 pub slot-read : {M : Type 0} (b : Block) (v : StoreView M) (a : ArenasView M) (e : Places) (k slot : ℕ) (r : Ref) →
     slot ≡ b.base + b.first + k → k < b.count → Holds v.now.terms a.blocks.slots b e → get_or a.blocks.slots slot None ≡ Some r →
-    Evaluates b v v a a (slot_term (held e k) k e v.now.state) r
+    Evaluates b (between v v a a) (slot_term (held e k) k e v.now.state) r
 slot-read b v a e k slot r at within holds is =
     let it : (x : Tree) × (held e k ≡ Some x) × (v.now.terms r.number ≡ Some x) = some-held v.now.terms r (held e k)
     (subst (λ o. IsHeldAt v.now.terms o (held e k)) (ap (λ i. get_or a.blocks.slots i None) (sym at) ∙ is) (holds-at v.now.terms a.blocks.slots b e k within holds)) in
-    subst (λ o. Evaluates b v v a a (slot_term o k e v.now.state) r) (sym it.1)
+    subst (λ o. Evaluates b (between v v a a) (slot_term o k e v.now.state) r) (sym it.1)
     (record { writes = writes-none b v a e holds; term = it.2 })
 
 pub slot-filled : {M : Type 0} (b : Block) (v w : StoreView M) (a : ArenasView M) (new : BlocksView) (e : Places) (k slot : ℕ) (r : Ref) →
     slot ≡ b.base + b.first + k → k < b.count → Holds v.now.terms a.blocks.slots b e → get_or a.blocks.slots slot None ≡ None →
     Gives v w (with_new v.now.state) r (var (next v.now.state)) → new.slots ≡ set a.blocks.slots slot (Some r) → new.kept ≡ a.blocks.kept → KeepsBlocks a.blocks new →
-    Evaluates b v w a (with_blocks a new) (slot_term (held e k) k e v.now.state) r
+    Evaluates b (between v w a (with_blocks a new)) (slot_term (held e k) k e v.now.state) r
 slot-filled b v w a new e k slot r at within holds is gives slots kept keeps =
     let none : held e k ≡ None = none-held v.now.terms (held e k)
     (subst (λ o. IsHeldAt v.now.terms o (held e k)) (ap (λ i. get_or a.blocks.slots i None) (sym at) ∙ is) (holds-at v.now.terms a.blocks.slots b e k within holds)) in
     let now : new.slots ≡ set a.blocks.slots (b.base + b.first + k) (Some r) = slots ∙ ap (λ i. set a.blocks.slots i (Some r)) at in
-    subst (λ o. Evaluates b v w a (with_blocks a new) (slot_term o k e v.now.state) r) (sym none)
+    subst (λ o. Evaluates b (between v w a (with_blocks a new)) (slot_term o k e v.now.state) r) (sym none)
     (record {
       writes = record {
         keeps = gives.changes.keeps;

@@ -15,8 +15,9 @@ use Rattle.pi_meaning.specs.Machine.Shape.{IsGood}
 use Rattle.pi_meaning.specs.Machine.Step.{step, with_tick}
 use Rattle.pi_meaning.proofs.Machine.LeadLemmas.{leads-none, step-ticks, good-tick}
 use Rattle.pi_engine_stands.specs.Stands.{World}
-use Rattle.pi_engine_stands.specs.Goes.{TicksUnless, Goes, TicksOn, AtGoal, GoalStops, PointStops}
+use Rattle.pi_engine_stands.specs.Goes.{TicksUnless, Goes, TicksOn, AtGoal, GoalStops, PointStops, counting}
 use Rattle.pi_engine_stands.proofs.GoalsGo.{none-counted, CallThere, by-goal}
+use Rattle.pi_engine_stands.specs.Changes.{change}
 
 -- what holds whatever a result is holds where it is an error
 pub so-at-err : {T E : Type 0} (P : Type 0) (r : Result T E) → P → IfErr r (λ _. P)
@@ -31,15 +32,15 @@ none-on v names mode old new w c same good = record {
   spent = tt;
 }
 
-pub goal-stops : {M : Type 0} (w : World M) (p : Point) (s : Step) (mode : Mode) (b : Budget) → GoalStops mode b b w p s
+pub goal-stops : {M : Type 0} (w : World M) (p : Point) (s : Step) (mode : Mode) (b : Budget) → GoalStops mode b b p s (change w w Now.Failing)
 goal-stops w p s mode b v fits names c is = none-on v names mode b b w c refl is.good
 
-pub point-stops : {M : Type 0} (w : World M) (p : Point) (mode : Mode) (b : Budget) → PointStops mode b b w p
+pub point-stops : {M : Type 0} (w : World M) (p : Point) (mode : Mode) (b : Budget) → PointStops mode b b p (change w w Now.Failing)
 point-stops w p mode b v fits names c some stands good rules = none-on v names mode b b w c refl good
 
 -- the Tick of a call was counted, where it has one
 pub call-stops : {M : Type 0} (w : World M) (p : Point) (s : Step) (c : Config) (v : View) (names : List NameSlot) (quiet : Bool) (mode : Mode) (old new : Budget) (x y : Now) → AtGoal w p s c → CallThere w p c v names quiet →
-    TicksUnless quiet mode old new x y true → TicksOn v names mode old new w (Now.Ended RunEnd.Memory) c
+    TicksUnless quiet (counting mode old new) x y true → TicksOn v names mode old new w (Now.Ended RunEnd.Memory) c
 call-stops w p s c v names true mode old new x y is there_it ticks = none-on v names mode old new w c ticks.1 is.good
 call-stops w p s c v names false mode old new x y is there_it ticks =
     let next : Config = there_it.next in

@@ -18,7 +18,7 @@ use Rattle.pi_engine_code.specs.declared.code.Step.{Step}
 use Rattle.pi_engine_code.specs.declared.code.Operand.{Operand}
 use Rattle.pi_engine_code.specs.Code.{Tables, node_kind}
 use Rattle.pi_engine_arenas.specs.Blocks.{BlocksView, KeepsBlocks}
-use Rattle.pi_engine_arenas.specs.Arenas.{ArenasView, entry_at}
+use Rattle.pi_engine_arenas.specs.Arenas.{ArenasView, entry_at, between}
 use Rattle.pi_engine_arenas.specs.Frames.{PushesBehind}
 use Rattle.pi_meaning.specs.Machine.Configuration.{Frame, going, raising, Config, config, behind, returning, Now as NowData, Entry as EntryData, in_places}
 use Rattle.pi_meaning.specs.Machine.Built.{AreOfRules}
@@ -42,6 +42,7 @@ use Rattle.pi_engine_stands.proofs.CallMade.{returning-some, arguments-added, Ro
 use Rattle.pi_engine_stands.proofs.GoalsGo.{GoalThere, goal-there, unspent, silent-ticks, deeper-on, by-goal}
 use Rattle.pi_engine_stands.proofs.HeadsMatch.{front-then}
 use Rattle.pi_engine_stands.proofs.LevelSteps.{kept-within}
+use Rattle.pi_engine_stands.specs.Changes.{change}
 
 -- ---- the goal
 
@@ -86,8 +87,8 @@ no-value : (s : Step) (operands arity : ℕ) (o : Operand) → s.node ≡ Node.C
 no-value s operands arity o node other = cc
 
 -- such a goal is run: no Tick is counted
-pub term-goes : {M : Type 0} (before after : World M) (p : Point) (s : Step) (operands arity : ℕ) (now : Now) (mode : Mode) (b : Budget) → before.loaded ≡ after.loaded → s.node ≡ Node.CallTerm operands arity → RunsGoal before after p s now →
-    GoalGoes mode b b before after p s now
+pub term-goes : {M : Type 0} (before after : World M) (p : Point) (s : Step) (operands arity : ℕ) (now : Now) (mode : Mode) (b : Budget) → before.loaded ≡ after.loaded → s.node ≡ Node.CallTerm operands arity → RunsGoal p s (change before after now) →
+    GoalGoes mode b b p s (change before after now)
 term-goes before after p s operands arity now mode b same node runs v fits names c is =
     let it : GoalThere before p c = goal-there before p s c is (λ o. no-value s operands arity o node) in
     let next : Config = config (term_next before operands arity it.gs it.e it.k) c.stack in
@@ -122,7 +123,7 @@ term-reads w p s g gs e k es operands arity node at stands =
 pub term-raises : {M : Type 0} (w : World M) (v : StoreView M) (a : ArenasView M) (p : Point) (s : Step) (operands arity : ℕ) (ball : Tree) (view : View) (g : GoalTree) (gs : GoalTrees) (e : Places) (k : List Frame) (es : List EntryData) →
     s.node ≡ Node.CallTerm operands arity → slice_get (steps_of w.loaded) p.place ≡ Some s → (stands : StandsGoing w p (goal g gs) e k es) →
     let all : EvaluatedAll = term_arguments w operands arity e in
-    Writes (block_of w p g gs e k es stands) w.store v w.arenas a all.slots all.state → term_next w operands arity gs e k ≡ raising ball →
+    Writes (block_of w p g gs e k es stands) (between w.store v w.arenas a) all.slots all.state → term_next w operands arity gs e k ≡ raising ball →
     StandsAfter (moved w v a) (Now.Raising ball) (goal_step view w.loaded.preds g e w.store.now.state (with_rest gs k es))
 term-raises w v a p s operands arity ball view g gs e k es node at stands writes raises =
     let is : GoingIs w p (goal g gs) e k = going-of w p (goal g gs) e w.store.now.state k stands.runs in
@@ -181,7 +182,7 @@ named-stands w c d rs b leaves limit n place many it ts e k es caller room new k
 pub term-enters : {M : Type 0} (w : World M) (v : StoreView M) (a : ArenasView M) (fs : List Point) (c d : BlocksView) (rs : List Ref) (p : Point) (s : Step) (operands arity n place : ℕ) (it : GoalTree) (ts : Trees) (view : View) (g : GoalTree) (gs : GoalTrees) (e : Places) (k : List Frame) (es : List EntryData) →
     s.node ≡ Node.CallTerm operands arity → slice_get (steps_of w.loaded) p.place ≡ Some s → (stands : StandsGoing w p (goal g gs) e k es) →
     let all : EvaluatedAll = term_arguments w operands arity e in
-    Writes (block_of w p g gs e k es stands) w.store v w.arenas a all.slots all.state → term_next w operands arity gs e k ≡ going (goal it no_goals) (in_places ts) all.state (returning all.slots (behind gs k)) → AreTerms v rs ts →
+    Writes (block_of w p g gs e k es stands) (between w.store v w.arenas a) all.slots all.state → term_next w operands arity gs e k ≡ going (goal it no_goals) (in_places ts) all.state (returning all.slots (behind gs k)) → AreTerms v rs ts →
     ((base : ℕ) → IsHere (tables_in w.loaded) (steps_of w.loaded) (record { base = base; first = 0; count = tree_count ts }) place it true) →
     PushesBehind p s a.frames fs n → GivesBack a.blocks c p.base s.is_last → d.slots ≡ c.slots ++ map (λ r. Some r) rs → KeepsBlocks c d → d.kept ≡ c.kept →
     StandsAfter (moved w v (with_blocks (framed a fs) d)) (Now.Going (named_point place (length c.slots) n)) (goal_step view w.loaded.preds g e w.store.now.state (with_rest gs k es))

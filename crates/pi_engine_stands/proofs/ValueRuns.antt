@@ -19,7 +19,7 @@ use Rattle.pi_engine_arenas.specs.declared.frames.Point.{Point}
 use Rattle.pi_engine_arenas.specs.declared.arenas.Kind.{Kind}
 use Rattle.pi_engine_arenas.specs.declared.arenas.Strict.{Strict as StrictKind}
 use Rattle.pi_engine_arenas.specs.declared.run.Now.{Now}
-use Rattle.pi_engine_arenas.specs.Arenas.{ArenasView, entry_at}
+use Rattle.pi_engine_arenas.specs.Arenas.{ArenasView, entry_at, between}
 use Rattle.pi_engine_arenas.specs.declared.arenas.Entry.{Entry}
 use Rattle.pi_engine_code.specs.Code.{Tables, tables_of, operand_tree}
 use Rattle.pi_meaning.specs.Machine.Configuration.{Frame, give, Entry as EntryData, Config, config, going, Now as NowData, Strict, strict, catch_level, Back as BackData}
@@ -134,7 +134,7 @@ value-there w p s operand c is node = value-in w p s operand c.now c.stack is.at
 abbrev pub Reads : {M : Type 0} → World M → StoreView M → ArenasView M → Code → Operand → ℕ → Ref → Type 0
 Reads w v a code operand first r =
     (t : Terms) (b : Block) (e : Places) → first ≡ slot_number b.base b.first → IsReadable (tables_of t code) b operand → Extend t w.store.now.terms → Holds w.store.now.terms w.arenas.blocks.slots b e →
-    Evaluates b w.store v w.arenas a (evaluated (operand_tree (tables_of t code) operand) e w.store.now.state) r
+    Evaluates b (between w.store v w.arenas a) (evaluated (operand_tree (tables_of t code) operand) e w.store.now.state) r
 
 -- the value is an answer in front of the level that waits for it
 pub record ValueRuns {M : Type 0} (w after : World M) (r : Ref) (c : Config) : Type 0 where
@@ -161,8 +161,8 @@ value-runs w v a p s operand code first r c is node is_code begins reads =
     let t : Tree = operand_tree (tables_in w.loaded) operand in
     let x : Evaluated = evaluated t it.e w.store.now.state in
     let starts : first ≡ slot_number b.base b.first = begins ∙ ap (λ n. slot_number n s.first_slot) (sym it.runs.base) ∙ ap (slot_number b.base) it.value.first in
-    let got : Evaluates b w.store v w.arenas a x r =
-    subst (λ q. IsReadable (tables_of w.loaded.terms q) b operand → Evaluates b w.store v w.arenas a (evaluated (operand_tree (tables_of w.loaded.terms q) operand) it.e w.store.now.state) r) (sym is_code)
+    let got : Evaluates b (between w.store v w.arenas a) x r =
+    subst (λ q. IsReadable (tables_of w.loaded.terms q) b operand → Evaluates b (between w.store v w.arenas a) (evaluated (operand_tree (tables_of w.loaded.terms q) operand) it.e w.store.now.state) r) (sym is_code)
     (λ readable. reads w.loaded.terms b it.e starts readable it.stands.tables it.runs.behind.slots) it.value.readable in
     let sound : IsState v.now.state = subst IsState (sym got.writes.state) (evaluated-state t it.e w.store.now.state it.stands.state) in
     let stands : StackStands after it.es = stack-moved w v a b x.slots x.state it.es got.writes sound it.stands in

@@ -6,7 +6,7 @@ use Rattle.pi_constraints.specs.Store.{StoreView, Extend}
 use Rattle.pi_core.specs.GoalTree.{GoalTrees}
 use Rattle.pi_engine_arenas.specs.declared.frames.Point.{Point}
 use Rattle.pi_engine_arenas.specs.Blocks.{BlocksView}
-use Rattle.pi_engine_arenas.specs.Arenas.{entry_at}
+use Rattle.pi_engine_arenas.specs.Arenas.{entry_at, between}
 use Rattle.pi_engine_arenas.specs.declared.arenas.Entry.{Entry}
 use Rattle.pi_meaning.specs.Machine.Configuration.{Frame, Entry as EntryData}
 use Rattle.pi_engine_stands.specs.Here.{Block, ends_base, GoesOn}
@@ -25,7 +25,7 @@ abbrev pub written : {M : Type 0} → World M → StoreView M → BlocksView →
 written w v bs = moved w v (with_blocks w.arenas bs)
 
 abbrev pub WritesTo : {M : Type 0} → World M → StoreView M → BlocksView → Block → Places → State → Type 0
-WritesTo w v bs b f s = Writes b w.store v w.arenas (with_blocks w.arenas bs) f s
+WritesTo w v bs b f s = Writes b (between w.store v w.arenas (with_blocks w.arenas bs)) f s
 
 writes-leave : {M : Type 0} (w : World M) (v : StoreView M) (bs : BlocksView) (b : Block) (f : Places) (s : State) (n : ℕ) → WritesTo w v bs b f s →
     Leaves w v (with_blocks w.arenas bs) n (length w.arenas.collected)

@@ -8,7 +8,7 @@ use Rattle.pi_core.specs.GoalTree.{GoalTree}
 use Rattle.pi_terms.proofs.GetLemmas.{get_some}
 use Rattle.pi_engine_code.specs.declared.code.Step.{Step}
 use Rattle.pi_engine_arenas.specs.Blocks.{BlocksView}
-use Rattle.pi_engine_arenas.specs.Arenas.{ArenasView}
+use Rattle.pi_engine_arenas.specs.Arenas.{ArenasView, between}
 use Rattle.pi_meaning.specs.Machine.Configuration.{Frame, Entry as EntryData}
 use Rattle.pi_engine_stands.specs.Here.{Here, Block, IsStepOf}
 use Rattle.pi_engine_stands.specs.Stands.{World, tables_in, steps_of, now_here, block_at, Agrees, GoalStands, StackStands}
@@ -55,7 +55,7 @@ written-in w v bs base place frame g e f s k es stands own agrees writes =
     }
 
 pub goal-written : {M : Type 0} (w : World M) (v : StoreView M) (c : ArenasView M) (base place frame : ℕ) (g : GoalTree) (e f : Places) (s : State) (k : List Frame) (es : List EntryData) → StackStands w es →
-    GoalStands w.loaded (now_here w) base place frame g e k → Agrees w w.arenas.level (now_here w) → Writes (block_at w.loaded place base) w.store v w.arenas c f s → GoalWritten (moved w v c) base place frame g f k
+    GoalStands w.loaded (now_here w) base place frame g e k → Agrees w w.arenas.level (now_here w) → Writes (block_at w.loaded place base) (between w.store v w.arenas c) f s → GoalWritten (moved w v c) base place frame g f k
 goal-written w v c base place frame g e f s k es stands own agrees writes =
     subst (λ r. GoalWritten (moved w v r) base place frame g f k) (sym writes.rest)
     (written-in w v c.blocks base place frame g e f s k es stands own agrees (writes-to w v c (block_at w.loaded place base) f s writes))

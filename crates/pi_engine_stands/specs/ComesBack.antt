@@ -6,7 +6,7 @@ use Rattle.pi_constraints.specs.Store.{StoreView, IsGood}
 use Rattle.pi_engine_arenas.specs.declared.arenas.Back.{Back}
 use Rattle.pi_engine_arenas.specs.declared.arenas.Entry.{Entry}
 use Rattle.pi_engine_arenas.specs.declared.run.Now.{Now}
-use Rattle.pi_engine_arenas.specs.Arenas.{ArenasView, ReturnsToNewest}
+use Rattle.pi_engine_arenas.specs.Arenas.{ArenasView, ReturnsToNewest, between}
 use Rattle.pi_meaning.specs.Machine.Configuration.{Entry as EntryData, choice, strict, catch_level, left, Config}
 use Rattle.pi_engine_stands.specs.Stands.{World, entries_of, back_here, KindIs, StackStands, Stands}
 
@@ -38,4 +38,4 @@ EntriesKeepOneMark M =
 abbrev pub ReturnsToTheMaking : Type 0 → Type 0
 ReturnsToTheMaking M =
     (w : World M) (v : StoreView M) (b : ArenasView M) (back : Back) (y : EntryData) (es : List EntryData) → StackStands w (y ∷ es) →
-    ReturnsToNewest w.order w.store v w.arenas b back → IsMadeIn y v.now.state
+    ReturnsToNewest w.order (between w.store v w.arenas b) back → IsMadeIn y v.now.state

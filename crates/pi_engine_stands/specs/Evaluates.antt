@@ -11,7 +11,7 @@ use Rattle.pi_engine_code.specs.declared.code.Part.{Part}
 use Rattle.pi_engine_code.specs.Code.{Tables, term_at}
 pub use Rattle.pi_engine_code.specs.Code.{operand_trees}
 use Rattle.pi_engine_arenas.specs.Blocks.{BlocksView, KeepsBlocks}
-use Rattle.pi_engine_arenas.specs.Arenas.{ArenasView}
+use Rattle.pi_engine_arenas.specs.Arenas.{ArenasView, Between}
 use Rattle.pi_engine_stands.specs.Here.{Block, block_end, Holds, IsReadablePart}
 
 -- the same arenas with these blocks
@@ -20,26 +20,26 @@ with_blocks a b = record { frames = a.frames; blocks = b; entries = a.entries; l
 
 -- The store's state becomes this one and the block's slots hold these terms, by writes to slots of the block that marks take
 -- back. All else of the arenas stays, and the store keeps what it has.
-pub record Writes {M : Type 0} (b : Block) (v w : StoreView M) (a c : ArenasView M) (f : Places) (s : State) : Type 0 where
-  pub keeps : Keeps v w
-  pub state : w.now.state ≡ s
-  pub holds : Holds w.now.terms c.blocks.slots b f
-  pub as_many : length c.blocks.slots ≡ length a.blocks.slots
-  pub front : take (b.base + b.first) c.blocks.slots ≡ take (b.base + b.first) a.blocks.slots
-  pub back : drop (block_end b) c.blocks.slots ≡ drop (block_end b) a.blocks.slots
-  pub blocks : KeepsBlocks a.blocks c.blocks
-  pub kept : c.blocks.kept ≡ a.blocks.kept
-  pub rest : c ≡ with_blocks a c.blocks
+pub record Writes {M : Type 0} (b : Block) (x : Between M) (f : Places) (s : State) : Type 0 where
+  pub keeps : Keeps x.store x.store_then
+  pub state : x.store_then.now.state ≡ s
+  pub holds : Holds x.store_then.now.terms x.arenas_then.blocks.slots b f
+  pub as_many : length x.arenas_then.blocks.slots ≡ length x.arenas.blocks.slots
+  pub front : take (b.base + b.first) x.arenas_then.blocks.slots ≡ take (b.base + b.first) x.arenas.blocks.slots
+  pub back : drop (block_end b) x.arenas_then.blocks.slots ≡ drop (block_end b) x.arenas.blocks.slots
+  pub blocks : KeepsBlocks x.arenas.blocks x.arenas_then.blocks
+  pub kept : x.arenas_then.blocks.kept ≡ x.arenas.blocks.kept
+  pub rest : x.arenas_then ≡ with_blocks x.arenas x.arenas_then.blocks
 
 -- a term is evaluated, and answered by its Ref
-pub record Evaluates {M : Type 0} (b : Block) (v w : StoreView M) (a c : ArenasView M) (x : Evaluated) (r : Ref) : Type 0 where
-  pub writes : Writes b v w a c x.slots x.state
-  pub term : IsTerm w r x.tree
+pub record Evaluates {M : Type 0} (b : Block) (x : Between M) (to : Evaluated) (r : Ref) : Type 0 where
+  pub writes : Writes b x to.slots to.state
+  pub term : IsTerm x.store_then r to.tree
 
 -- terms are evaluated from the left, and answered by their Refs
-pub record EvaluatesAll {M : Type 0} (b : Block) (v w : StoreView M) (a c : ArenasView M) (x : EvaluatedAll) (rs : List Ref) : Type 0 where
-  pub writes : Writes b v w a c x.slots x.state
-  pub terms : AreTerms w rs x.trees
+pub record EvaluatesAll {M : Type 0} (b : Block) (x : Between M) (to : EvaluatedAll) (rs : List Ref) : Type 0 where
+  pub writes : Writes b x to.slots to.state
+  pub terms : AreTerms x.store_then rs to.trees
 
 -- ---- the parts of a compound
 
@@ -47,6 +47,10 @@ pub record EvaluatesAll {M : Type 0} (b : Block) (v w : StoreView M) (a c : Aren
 pub record Filling : Type 0 where
   pub slots : Places
   pub state : State
+
+-- a block is written so that they are filled
+abbrev pub WritesFilling : {M : Type 0} → Block → Between M → Filling → Type 0
+WritesFilling b x f = Writes b x f.slots f.state
 
 abbrev pub after_term : Evaluated → Filling
 after_term x = record { slots = x.slots; state = x.state }

@@ -12,6 +12,7 @@ use Rattle.pi_meaning.specs.Machine.Step.{Outcome, silently, with_tick, quietly,
 use Rattle.pi_core.specs.GoalTree.{GoalTrees}
 use Rattle.pi_engine_stands.specs.Stands.{World, tables_in, entries_of, now_here, back_here, IsCodeOf, EntryIs, StackIs, StackStands, Stands}
 use Rattle.pi_constraints.specs.Store.{Extend}
+use Rattle.pi_engine_stands.specs.Changes.{Change}
 
 -- a run is at its end
 abbrev pub IsEnded : Now → End → Type 0
@@ -29,9 +30,9 @@ ComesTo w now (writing text c) = ⊥
 ComesTo w now (answering x c) = ⊥
 ComesTo w now (ending e) = IsEnded now e
 
--- From what a run has before to what it has after: goals have no further answer, and the newest entry is next.
-abbrev pub Fails : {M : Type 0} → World M → World M → Now → Type 0
-Fails before after now = (es : List EntryData) → StackStands before es → ComesTo after now (fail_step es)
+-- A step of a run: goals have no further answer, and the newest entry is next.
+abbrev pub Fails : {M : Type 0} → Change M → Type 0
+Fails made = (es : List EntryData) → StackStands made.before es → ComesTo made.after made.now (fail_step es)
 
 -- The newest entry, which waits for this, was come back to: what is there is what it brings back.
 pub record IsBack {M : Type 0} (w : World M) (back : Back) (y : EntryData) (es : List EntryData) : Type 0 where
@@ -52,16 +53,16 @@ pub record IsBack {M : Type 0} (w : World M) (back : Back) (y : EntryData) (es :
   pub tables : Extend w.loaded.terms w.store.now.terms
 
 -- what is next of branches, with an entry for those that are left
-abbrev pub GoesOnWithBranch : {M : Type 0} → World M → World M → Back → Now → Type 0
-GoesOnWithBranch before after back now =
-    (gs : GoalTrees) (b : BackData) (es : List EntryData) → IsBack before back (choice (branches_left gs) b) es → Stands after now (branch gs b es)
+abbrev pub GoesOnWithBranch : {M : Type 0} → Back → Change M → Type 0
+GoesOnWithBranch back made =
+    (gs : GoalTrees) (b : BackData) (es : List EntryData) → IsBack made.before back (choice (branches_left gs) b) es → Stands made.after made.now (branch gs b es)
 
 -- what a level makes of it that its goal has no further answer
-abbrev pub EndsLevel : {M : Type 0} → World M → World M → Back → Now → Type 0
-EndsLevel before after back now =
-    (s : Strict) (b : BackData) (es : List EntryData) → IsBack before back (strict s b) es → Stands after now (end_step s b es)
+abbrev pub EndsLevel : {M : Type 0} → Back → Change M → Type 0
+EndsLevel back made =
+    (s : Strict) (b : BackData) (es : List EntryData) → IsBack made.before back (strict s b) es → Stands made.after made.now (end_step s b es)
 
 -- an entry that is passed over
-abbrev pub PassesOver : {M : Type 0} → World M → World M → Back → Now → Type 0
-PassesOver before after back now =
-    (y : EntryData) (es : List EntryData) → IsBack before back y es → ComesTo after now (fail_step (y ∷ es))
+abbrev pub PassesOver : {M : Type 0} → Back → Change M → Type 0
+PassesOver back made =
+    (y : EntryData) (es : List EntryData) → IsBack made.before back y es → ComesTo made.after made.now (fail_step (y ∷ es))

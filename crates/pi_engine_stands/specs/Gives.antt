@@ -10,6 +10,7 @@ use Rattle.pi_meaning.specs.Machine.Configuration.{Config}
 use Rattle.pi_engine_stands.specs.Goes.{AtGoal}
 use Rattle.pi_engine_stands.specs.Makes.{SilentlyTo}
 use Rattle.pi_engine_stands.specs.Stands.{World, Stands}
+use Rattle.pi_engine_stands.specs.Changes.{Change}
 
 -- what an entry comes back to, in the caller's block and without the slots of the call
 abbrev pub without_call : Back → ℕ → Back
@@ -22,8 +23,8 @@ without_call back caller = record {
   kind = back.kind;
 }
 
--- From what a run has before to what it has after: at a point whose step is a function's value, silent steps lead to where the
+-- A step of a run: at a point whose step is a function's value, silent steps lead to where the
 -- value is in the caller's slot.
-abbrev pub GivesValue : {M : Type 0} → World M → World M → Point → Step → Now → Type 0
-GivesValue before after p s now =
-    (view : View) (names : List NameSlot) (c : Config) → AtGoal before p s c → (d : Config) × SilentlyTo view before.loaded.preds names c d × Stands after now d
+abbrev pub GivesValue : {M : Type 0} → Point → Step → Change M → Type 0
+GivesValue p s made =
+    (view : View) (names : List NameSlot) (c : Config) → AtGoal made.before p s c → (d : Config) × SilentlyTo view made.before.loaded.preds names c d × Stands made.after made.now d

@@ -19,6 +19,7 @@ use Rattle.pi_engine_arenas.specs.declared.frames.Point.{Point}
 use Rattle.pi_meaning.specs.Machine.Built.{AreOfRules}
 use Rattle.pi_engine_stands.specs.Stands.{World, steps_of, Stands}
 use Rattle.pi_engine_stands.specs.Views.{Fits}
+use Rattle.pi_engine_stands.specs.Changes.{change, Change}
 
 -- ---- Ticks that are counted
 
@@ -42,10 +43,19 @@ abbrev pub Ticks : Mode → Budget → Budget → Now → Now → Bool → Type 
 Ticks mode old new before after true = (counted mode old new ≡ 1) × (after ≡ before)
 Ticks mode old new before after false = (new ≡ old) × (after ≡ Now.Ended (spent mode)) × HasNone mode old
 
+-- what a machine counts: of which kind it is, and its budget before and after
+pub record Counting : Type 0 where
+  pub mode : Mode
+  pub old : Budget
+  pub new : Budget
+
+abbrev pub counting : Mode → Budget → Budget → Counting
+counting mode old new = record { mode = mode; old = old; new = new }
+
 -- a call counts one where it isn't quiet
-abbrev pub TicksUnless : Bool → Mode → Budget → Budget → Now → Now → Bool → Type 0
-TicksUnless true mode old new before after found = (found ≡ true) × (new ≡ old) × (after ≡ before)
-TicksUnless false mode old new before after found = Ticks mode old new before after found
+abbrev pub TicksUnless : Bool → Counting → Now → Now → Bool → Type 0
+TicksUnless true b before after found = (found ≡ true) × (b.new ≡ b.old) × (after ≡ before)
+TicksUnless false b before after found = Ticks b.mode b.old b.new before after found
 
 -- ---- where a run is
 
@@ -91,20 +101,23 @@ pub record AtGoal {M : Type 0} (w : World M) (p : Point) (s : Step) (c : Config)
   pub rules : AreOfRules w.loaded.preds
 
 -- from it on, with the Ticks that are counted, under the views that fit a kind of machine
-abbrev pub GoalGoes : {M : Type 0} → Mode → Budget → Budget → World M → World M → Point → Step → Now → Type 0
-GoalGoes mode old new before after p s now = (v : View) → Fits mode v → (names : List NameSlot) (c : Config) → AtGoal before p s c → TicksOn v names mode old new after now c
+abbrev pub GoalGoes : {M : Type 0} → Mode → Budget → Budget → Point → Step → Change M → Type 0
+GoalGoes mode old new p s made = (v : View) → Fits mode v → (names : List NameSlot) (c : Config) → AtGoal made.before p s c → TicksOn v names mode old new made.after made.now c
 
 -- the same of a run at a point that has goals, or a function's value
-abbrev pub PointGoes : {M : Type 0} → Mode → Budget → Budget → World M → World M → Point → Now → Type 0
-PointGoes mode old new before after p now =
-    (v : View) → Fits mode v → (names : List NameSlot) (c : Config) → 0 < p.count → Stands before (Now.Going p) c → IsGood c → AreOfRules before.loaded.preds → TicksOn v names mode old new after now c
+abbrev pub PointGoes : {M : Type 0} → Mode → Budget → Budget → Point → Change M → Type 0
+PointGoes mode old new p made =
+    (v : View) → Fits mode v → (names : List NameSlot) (c : Config) → 0 < p.count → Stands made.before (Now.Going p) c → IsGood c → AreOfRules made.before.loaded.preds → TicksOn v names mode old new made.after made.now c
 
 -- Where its step stops for want of memory, the Ticks that it counted come next in the run all the same: as if it had ended there.
-abbrev pub GoalStops : {M : Type 0} → Mode → Budget → Budget → World M → Point → Step → Type 0
-GoalStops mode old new before p s = GoalGoes mode old new before before p s (Now.Ended RunEnd.Memory)
+abbrev pub stopped : {M : Type 0} → Change M → Change M
+stopped made = change made.before made.before (Now.Ended RunEnd.Memory)
 
-abbrev pub PointStops : {M : Type 0} → Mode → Budget → Budget → World M → Point → Type 0
-PointStops mode old new before p = PointGoes mode old new before before p (Now.Ended RunEnd.Memory)
+abbrev pub GoalStops : {M : Type 0} → Mode → Budget → Budget → Point → Step → Change M → Type 0
+GoalStops mode old new p s made = GoalGoes mode old new p s (stopped made)
+
+abbrev pub PointStops : {M : Type 0} → Mode → Budget → Budget → Point → Change M → Type 0
+PointStops mode old new p made = PointGoes mode old new p (stopped made)
 
 -- a run at a point whose goals are done
 pub record PointIsDone {M : Type 0} (w : World M) (p : Point) (c : Config) : Type 0 where

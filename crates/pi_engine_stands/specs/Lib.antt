@@ -1,6 +1,7 @@
 pub mod Here
 pub mod Evaluates
 pub mod Stands
+pub mod Changes
 pub mod Views
 pub mod Makes
 pub mod Does

@@ -20,6 +20,7 @@ use Rattle.pi_meaning.specs.Machine.Shape.{IsBalanced}
 use Rattle.pi_meaning.specs.declared.happening.Mode.{Mode}
 use Rattle.pi_engine_stands.specs.Stands.{World, steps_of, Stands, StandsGoing}
 use Rattle.pi_engine_stands.specs.Views.{Fits}
+use Rattle.pi_engine_stands.specs.Changes.{Change}
 
 -- a run stands for what a step comes to, where that is a configuration
 abbrev pub StandsAfter : {M : Type 0} → World M → Now → Outcome → Type 0
@@ -31,20 +32,20 @@ StandsAfter w now (writing text c) = ⊥
 StandsAfter w now (answering x c) = ⊥
 StandsAfter w now (ending e) = ⊥
 
--- From what a run has before to what it has after: the first goal at a point, which has this step, is run, whatever is left
+-- A step of a run: the first goal at a point, which has this step, is run, whatever is left
 -- behind the goal and on the stack.
-abbrev pub RunsGoal : {M : Type 0} → World M → World M → Point → Step → Now → Type 0
-RunsGoal before after p s now =
+abbrev pub RunsGoal : {M : Type 0} → Point → Step → Change M → Type 0
+RunsGoal p s made =
     (view : View) (g : GoalTree) (gs : GoalTrees) (e : Places) (k : List Frame) (es : List Entry) →
-    slice_get (steps_of before.loaded) p.place ≡ Some s → StandsGoing before p (goal g gs) e k es →
-    StandsAfter after now (goal_step view before.loaded.preds g e before.store.now.state (with_rest gs k es))
+    slice_get (steps_of made.before.loaded) p.place ≡ Some s → StandsGoing made.before p (goal g gs) e k es →
+    StandsAfter made.after made.now (goal_step view made.before.loaded.preds g e made.before.store.now.state (with_rest gs k es))
 
 -- the same under the views that fit a kind of machine: what a body of a planner call may not write it raises
-abbrev pub RunsGoalIn : {M : Type 0} → Mode → World M → World M → Point → Step → Now → Type 0
-RunsGoalIn mode before after p s now =
+abbrev pub RunsGoalIn : {M : Type 0} → Mode → Point → Step → Change M → Type 0
+RunsGoalIn mode p s made =
     (view : View) → Fits mode view → (g : GoalTree) (gs : GoalTrees) (e : Places) (k : List Frame) (es : List Entry) →
-    slice_get (steps_of before.loaded) p.place ≡ Some s → StandsGoing before p (goal g gs) e k es →
-    StandsAfter after now (goal_step view before.loaded.preds g e before.store.now.state (with_rest gs k es))
+    slice_get (steps_of made.before.loaded) p.place ≡ Some s → StandsGoing made.before p (goal g gs) e k es →
+    StandsAfter made.after made.now (goal_step view made.before.loaded.preds g e made.before.store.now.state (with_rest gs k es))
 
 -- the entry by which a goal with this node at a place is entered, where so many values are collected
 abbrev pub level_kind : ℕ → ℕ → Node → Option Kind
@@ -61,15 +62,15 @@ pub data SilentlyTo (view : View) (preds : List PredTree) (names : List NameSlot
   one_more : {c d e : Config} → step view preds names c ≡ silently d → SilentlyTo view preds names d e → SilentlyTo view preds names c e
 
 -- goals are done and no frame is left, and the newest open level has an answer
-abbrev pub AnswersLevel : {M : Type 0} → World M → World M → Now → Type 0
-AnswersLevel before after now =
+abbrev pub AnswersLevel : {M : Type 0} → Change M → Type 0
+AnswersLevel made =
     (view : View) (names : List NameSlot) (p : Point) (e : Places) (k : List Frame) (es : List Entry) →
-    StandsGoing before p no_goals e k es → p.count ≡ 0 → p.frame ≡ 0 → IsBalanced zero es →
-    (c : Config) × SilentlyTo view before.loaded.preds names (config (going no_goals e before.store.now.state k) es) c × Stands after now c
+    StandsGoing made.before p no_goals e k es → p.count ≡ 0 → p.frame ≡ 0 → IsBalanced zero es →
+    (c : Config) × SilentlyTo view made.before.loaded.preds names (config (going no_goals e made.before.store.now.state k) es) c × Stands made.after made.now c
 
 -- the same where there is an open level
-abbrev pub AnswersOpen : {M : Type 0} → World M → World M → Now → Type 0
-AnswersOpen before after now = 0 < before.arenas.level → AnswersLevel before after now
+abbrev pub AnswersOpen : {M : Type 0} → Change M → Type 0
+AnswersOpen made = 0 < made.before.arenas.level → AnswersLevel made
 
 -- the entries of levels at a place
 abbrev pub once_at : ℕ → Kind
@@ -119,15 +120,15 @@ IsCopied u (Some x) = (x ≡ copy 0 u) × (cells u ≤ most_cells)
 IsCopied u None = most_cells < cells u
 
 -- The same of a `catch` whose term was evaluated before, so that the slots hold what it needs: its level is entered.
-abbrev pub EntersCatch : {M : Type 0} → World M → World M → Point → Step → Now → Type 0
-EntersCatch before after p s now =
+abbrev pub EntersCatch : {M : Type 0} → Point → Step → Change M → Type 0
+EntersCatch p s made =
     (g h : GoalTree) (ball : Tree) (gs : GoalTrees) (e : Places) (k : List Frame) (es : List Entry) →
-    slice_get (steps_of before.loaded) p.place ≡ Some s → StandsGoing before p (goal (catch g ball h) gs) e k es →
-    evaluated ball e before.store.now.state ≡ record { tree = (evaluated ball e before.store.now.state).tree; slots = e; state = before.store.now.state } →
-    Stands after now (inside g e before.store.now.state (catch_level (evaluated ball e before.store.now.state).tree h (back_to e before.store.now.state (behind gs k))) es)
+    slice_get (steps_of made.before.loaded) p.place ≡ Some s → StandsGoing made.before p (goal (catch g ball h) gs) e k es →
+    evaluated ball e made.before.store.now.state ≡ record { tree = (evaluated ball e made.before.store.now.state).tree; slots = e; state = made.before.store.now.state } →
+    Stands made.after made.now (inside g e made.before.store.now.state (catch_level (evaluated ball e made.before.store.now.state).tree h (back_to e made.before.store.now.state (behind gs k))) es)
 
 -- goals are done, and what runs next is silent steps further
-abbrev pub GoesFrom : {M : Type 0} → World M → World M → Point → Now → Type 0
-GoesFrom before after p now =
-    (view : View) (names : List NameSlot) (e : Places) (k : List Frame) (es : List Entry) → StandsGoing before p no_goals e k es →
-    (c : Config) × SilentlyTo view before.loaded.preds names (config (going no_goals e before.store.now.state k) es) c × Stands after now c
+abbrev pub GoesFrom : {M : Type 0} → Point → Change M → Type 0
+GoesFrom p made =
+    (view : View) (names : List NameSlot) (e : Places) (k : List Frame) (es : List Entry) → StandsGoing made.before p no_goals e k es →
+    (c : Config) × SilentlyTo view made.before.loaded.preds names (config (going no_goals e made.before.store.now.state k) es) c × Stands made.after made.now c

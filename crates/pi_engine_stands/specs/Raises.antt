@@ -13,7 +13,7 @@ use Rattle.pi_engine_arenas.specs.declared.arenas.Kind.{Kind}
 use Rattle.pi_engine_arenas.specs.declared.arenas.Strict.{Strict}
 use Rattle.pi_engine_code.specs.declared.code.Step.{Step}
 use Rattle.pi_engine_arenas.specs.declared.run.Now.{Now}
-use Rattle.pi_engine_arenas.specs.Arenas.{newest}
+use Rattle.pi_engine_arenas.specs.Arenas.{newest, between}
 use Rattle.pi_engine_arenas.specs.declared.arenas.Entry.{Entry}
 use Rattle.pi_meaning.specs.Machine.Configuration.{Frame, Entry as EntryData}
 use Rattle.pi_meaning.specs.Machine.Step.{raise_step}
@@ -22,15 +22,16 @@ use Rattle.pi_engine_stands.specs.Stands.{World, steps_of, entries_of, now_here,
 use Rattle.pi_constraints.specs.Store.{Extend}
 use Rattle.pi_engine_stands.specs.Evaluates.{Writes}
 use Rattle.pi_engine_stands.specs.Fails.{ComesTo}
+use Rattle.pi_engine_stands.specs.Changes.{Change}
 
--- From what a run has before to what it has after: an exception is handed to the newest entry.
-abbrev pub Raises : {M : Type 0} → World M → World M → Now → Now → Type 0
-Raises before after old now =
-    (ball : Tree) (es : List EntryData) → old ≡ Now.Raising ball → StackStands before es → IsBalanced zero es → ComesTo after now (raise_step ball es)
+-- A step of a run: an exception is handed to the newest entry.
+abbrev pub Raises : {M : Type 0} → Now → Change M → Type 0
+Raises old made =
+    (ball : Tree) (es : List EntryData) → old ≡ Now.Raising ball → StackStands made.before es → IsBalanced zero es → ComesTo made.after made.now (raise_step ball es)
 
 -- the same where the newest entry comes back to this
-abbrev pub RaisesFrom : {M : Type 0} → World M → World M → Back → Now → Now → Type 0
-RaisesFrom before after back old now = (x : Entry _) → newest (entries_of before) ≡ Some x → x.back ≡ back → Raises before after old now
+abbrev pub RaisesFrom : {M : Type 0} → Back → Now → Change M → Type 0
+RaisesFrom back old made = (x : Entry _) → newest (entries_of made.before) ≡ Some x → x.back ≡ back → Raises old made
 
 -- entries that catch nothing, and pass nothing
 abbrev pub IsDropped : Kind → Type 0
@@ -47,11 +48,11 @@ collected_below kind n = n
 
 -- Whether a `catch`, whose entry is gone, catches the ball that was raised: its term, which was evaluated when it was entered, is
 -- unified with a copy of the ball.
-abbrev pub TellsCaught : {M : Type 0} → World M → World M → Back → Step → Tree → Bool → Type 0
-TellsCaught before after back s ball found =
-    (place : ℕ) (g handler : GoalTree) (wanted : Tree) (e : Places) (k : List Frame) → slice_get (steps_of before.loaded) place ≡ Some s →
-    GoalStands before.loaded (now_here before) back.base place back.frame (catch g wanted handler) e k →
-    evaluated wanted e before.store.now.state ≡ record { tree = (evaluated wanted e before.store.now.state).tree; slots = e; state = before.store.now.state } →
-    IsState before.store.now.state → Extend before.loaded.terms before.store.now.terms →
-    Writes (block_at before.loaded place back.base) before.store after.store before.arenas after.arenas e after.store.now.state × IsState after.store.now.state
-    × Answers (unified (with_new_variables (new_variables ball) before.store.now.state) (evaluated wanted e before.store.now.state).tree (copy (next before.store.now.state) ball)) found after.store.now.state
+abbrev pub TellsCaught : {M : Type 0} → Back → Step → Tree → Bool → Change M → Type 0
+TellsCaught back s ball found made =
+    (place : ℕ) (g handler : GoalTree) (wanted : Tree) (e : Places) (k : List Frame) → slice_get (steps_of made.before.loaded) place ≡ Some s →
+    GoalStands made.before.loaded (now_here made.before) back.base place back.frame (catch g wanted handler) e k →
+    evaluated wanted e made.before.store.now.state ≡ record { tree = (evaluated wanted e made.before.store.now.state).tree; slots = e; state = made.before.store.now.state } →
+    IsState made.before.store.now.state → Extend made.before.loaded.terms made.before.store.now.terms →
+    Writes (block_at made.before.loaded place back.base) (between made.before.store made.after.store made.before.arenas made.after.arenas) e made.after.store.now.state × IsState made.after.store.now.state
+    × Answers (unified (with_new_variables (new_variables ball) made.before.store.now.state) (evaluated wanted e made.before.store.now.state).tree (copy (next made.before.store.now.state) ball)) found made.after.store.now.state

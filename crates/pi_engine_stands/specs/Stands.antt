@@ -30,11 +30,12 @@ use Rattle.pi_engine_arenas.specs.declared.run.Telling.{Telling}
 use Rattle.pi_engine_arenas.specs.declared.run.Now.{Now}
 use Rattle.pi_engine_code.specs.Code.{Tables, tables_of, preds_of}
 use Rattle.pi_engine_arenas.specs.Blocks.{IsKept, IsOlder, brought_back}
-use Rattle.pi_engine_arenas.specs.Arenas.{ArenasView, entry_at, newest, slots_kept_by}
+use Rattle.pi_engine_arenas.specs.Arenas.{ArenasView, entry_at, newest, slots_kept_by, view_of}
 use Rattle.pi_engine_arenas.specs.declared.arenas.Entry.{Entry}
 use Rattle.pi_engine_stands.specs.Here.{Block, block_end, Holds, HoldsArguments, IsHere, AreHere, AreBranches, valued, Ends, in_block, with_value, Here, LeftBehind, GoesOn}
 use Rattle.pi_meaning.specs.Machine.Shape.{open_level}
 use Rattle.pi_meaning.specs.Machine.Configuration.{Called, rules_left, facts_left, branches_left, once_level, not_level, if_level, guard_level, value_level, list_level, number_level, Frame, Entry as EntryData, choice, strict, catch_level, left, Now as NowData, going, telling, failed, raising, Config, config}
+use Rattle.pi_engine_arenas.specs.declared.run.Run.{Run}
 
 -- ---- programs in tables
 
@@ -131,6 +132,10 @@ pub record World (M : Type 0) : Type 0 where
 
 abbrev pub world : {M : Type 0} → Loaded → StoreView M → (M → ℕ) → ArenasView M → World M
 world l s order a = record { loaded = l; store = s; order = order; arenas = a }
+
+-- what a run has, by what its kind of store holds and by the order of its marks
+abbrev pub world_of : {S M : Type 0} → (S → StoreView M) → (M → ℕ) → Loaded → Run S M → World M
+world_of seen order l run = world l (seen run.store) order (view_of run.arenas)
 
 abbrev pub entries_of : {M : Type 0} → World M → List (Entry M)
 entries_of w = w.arenas.entries

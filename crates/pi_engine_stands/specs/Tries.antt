@@ -16,13 +16,15 @@ use Rattle.pi_engine_arenas.specs.Blocks.{BlocksView, IsKept, KeepsBlocks, broug
 use Rattle.pi_engine_code.specs.declared.code.Predicate.{Predicate}
 use Rattle.pi_engine_code.specs.declared.code.Rule.{Rule}
 use Rattle.pi_engine_arenas.specs.declared.run.Now.{Now}
-use Rattle.pi_engine_arenas.specs.Arenas.{ArenasView, entry_at, newest, slots_kept_by, noted_by, with_kind, PushesEntry, DropsNewest}
+use Rattle.pi_engine_arenas.specs.Arenas.{ArenasView, entry_at, newest, slots_kept_by, noted_by, with_kind, PushesEntry, DropsNewest, Between, keeping, Keeping}
 use Rattle.pi_engine_arenas.specs.declared.arenas.Entry.{Entry}
 use Rattle.pi_meaning.specs.Machine.Configuration.{Frame, Called, strict, guard_level, Entry as EntryData}
 use Rattle.pi_meaning.specs.Machine.Shape.{open_level}
 use Rattle.pi_engine_stands.specs.Here.{Block, block_end, Here, Holds, HoldsArguments, GoesOn}
 use Rattle.pi_engine_stands.specs.Stands.{Loaded, World, tables_in, steps_of, entries_of, back_here, now_here, Agrees, agrees_from, IsCodeOf, IsRuleOf, clause_block, rule_block, CallStands, EntryIs, StackIs, Stands}
 use Rattle.pi_meaning.specs.Machine.Step.{taken, guarding, try_rules, try_facts, try_clauses, back_to, trial}
+use Rattle.pi_engine_stands.specs.Changes.{Change}
+use Rattle.pi_engine_arenas.specs.declared.frames.Call.{Call}
 
 -- the rules of a predicate from one on, with which a call goes on
 pub record RulesLeft (l : Loaded) (p r : ℕ) (called : Called) (cs : List ClauseTree) : Type 0 where
@@ -83,9 +85,9 @@ renamed a x kind =
     record { frames = a.frames; blocks = a.blocks; entries = slice_set a.entries (length a.entries - 1) (with_kind x kind); level = a.level; collected = a.collected }
 
 -- the call is kept: in the newest entry where that is the call's, else in one more
-pub data KeepsCall {M : Type 0} (order : M → ℕ) (v w : StoreView M) (a b : ArenasView M) (slots base frame : ℕ) (kind : Kind) : Bool → Type 0 where
-  keeps_new : PushesEntry order v w a b slots base frame kind → KeepsCall order v w a b slots base frame kind false
-  keeps_own : w ≡ v → ((x : Entry M) → newest a.entries ≡ Some x → b ≡ renamed a x kind) → KeepsCall order v w a b slots base frame kind true
+pub data KeepsCall {M : Type 0} (order : M → ℕ) (x : Between M) (k : Keeping) : Bool → Type 0 where
+  keeps_new : PushesEntry order x k → KeepsCall order x k false
+  keeps_own : x.store_then ≡ x.store → ((y : Entry M) → newest x.arenas.entries ≡ Some y → x.arenas_then ≡ renamed x.arenas y k.kind) → KeepsCall order x k true
 
 -- a rule of a call whose head matches: the rule stands in the tables, and the slots that its head fills in the call's block
 pub record Applies {M : Type 0} (w : World M) (p base frame number : ℕ) (called : Called) (c : ClauseTree) (cs : List ClauseTree) (s : State) (k : List Frame) (es : List EntryData) (again : Bool) (predicate : Predicate) (rule : Rule) (e : Places) : Type 0 where
@@ -95,20 +97,20 @@ pub record Applies {M : Type 0} (w : World M) (p base frame number : ℕ) (calle
   pub found : slice_get w.loaded.code.rules.items number ≡ Some rule
   pub slots : Holds w.store.now.terms w.arenas.blocks.slots (clause_block base is.call.call.pred c) e
 
--- From what a run has before to what it has after: a rule that applies is taken, where the entry of the call, if it has one,
+-- A step of a run: a rule that applies is taken, where the entry of the call, if it has one,
 -- is the newest.
-abbrev pub TakesRule : {M : Type 0} → World M → World M → ℕ → ℕ → ℕ → ℕ → Bool → Predicate → Rule → Now → Type 0
-TakesRule before after p base frame number again predicate rule now =
+abbrev pub TakesRule : {M : Type 0} → Call → ℕ → Bool → Predicate → Rule → Change M → Type 0
+TakesRule call number again predicate rule made =
     (called : Called) (c : ClauseTree) (cs : List ClauseTree) (s : State) (k : List Frame) (es : List EntryData) (e : Places) →
-    Applies before p base frame number called c cs s k es again predicate rule e →
-    Stands after now (taken (trial called c cs (back_to [] s k) es) e before.store.now.state)
+    Applies made.before call.predicate call.base call.frame number called c cs s k es again predicate rule e →
+    Stands made.after made.now (taken (trial called c cs (back_to [] s k) es) e made.before.store.now.state)
 
 -- the condition of such a rule is entered, by a call that comes back to the present state
-abbrev pub EntersGuard : {M : Type 0} → World M → World M → ℕ → ℕ → ℕ → ℕ → Bool → Predicate → ℕ → Now → Type 0
-EntersGuard before after p base frame number again predicate guard now =
+abbrev pub EntersGuard : {M : Type 0} → Call → ℕ → Bool → Predicate → ℕ → Change M → Type 0
+EntersGuard call number again predicate guard made =
     (rule : Rule) (called : Called) (c : ClauseTree) (cs : List ClauseTree) (s : State) (k : List Frame) (es : List EntryData) (e : Places) →
-    Applies before p base frame number called c cs s k es again predicate rule e → rule.guard ≡ Some guard → s ≡ before.store.now.state →
-    Stands after now (guarding c.guard (trial called c cs (back_to [] s k) es) e)
+    Applies made.before call.predicate call.base call.frame number called c cs s k es again predicate rule e → rule.guard ≡ Some guard → s ≡ made.before.store.now.state →
+    Stands made.after made.now (guarding c.guard (trial called c cs (back_to [] s k) es) e)
 
 -- a level's entry stays, and what lies behind it is given back but for the first so many slots
 pub record ReturnsTo {M : Type 0} (a b : ArenasView M) (number : ℕ) (back : Back) (slots : ℕ) : Type 0 where
@@ -136,10 +138,10 @@ pub record GuardAnswers {M : Type 0} (w : World M) (level : ℕ) (back : Back) (
   pub inside : (z : Entry M) → entry_at (entries_of w) back.level ≡ Some z → z.back.base ≤ back.base
 
 -- a rule whose condition has an answer is taken
-abbrev pub TakesGuarded : {M : Type 0} → World M → World M → ℕ → Back → ℕ → ℕ → Now → Type 0
-TakesGuarded before after level back p number now =
+abbrev pub TakesGuarded : {M : Type 0} → ℕ → Back → ℕ → ℕ → Change M → Type 0
+TakesGuarded level back p number made =
     (called : Called) (c : ClauseTree) (cs : List ClauseTree) (s : State) (k : List Frame) (below : List EntryData) (e : Places) →
-    GuardAnswers before level back p number called c cs s k below e → Stands after now (taken (trial called c cs (back_to [] s k) below) e before.store.now.state)
+    GuardAnswers made.before level back p number called c cs s k below e → Stands made.after made.now (taken (trial called c cs (back_to [] s k) below) e made.before.store.now.state)
 
 -- the arenas are the same but for the slots from one on
 pub record KeepsBelow {M : Type 0} (a b : ArenasView M) (limit : ℕ) : Type 0 where
@@ -194,41 +196,41 @@ is_atom_cell k (Cell.Comp j count) = false
 abbrev pub HasArguments : {M : Type 0} → World M → ℕ → ℕ → Called → Type 0
 HasArguments w base arity called = HoldsArguments w.store.now.terms w.arenas.blocks.slots base arity called.args
 
--- From what a run has before to what it has after: the head of the first rule that is left of a call is matched against the
+-- A step of a run: the head of the first rule that is left of a call is matched against the
 -- call's arguments.
-abbrev pub MatchesHead : {M : Type 0} → World M → World M → ℕ → ℕ → ℕ → ℕ → ℕ → Rule → Bool → Type 0
-MatchesHead before after p base frame number arity rule found =
+abbrev pub MatchesHead : {M : Type 0} → Call → ℕ → ℕ → Rule → Bool → Change M → Type 0
+MatchesHead call number arity rule found made =
     (called : Called) (c : ClauseTree) (cs : List ClauseTree) (s : State) (k : List Frame) (es : List EntryData) (again : Bool) →
-    (is : CallIs before p base frame number called (c ∷ cs) s k es again) → slice_get before.loaded.code.rules.items number ≡ Some rule → arity ≡ is.call.call.pred.arity → HasArguments before base is.call.call.pred.arity called →
-    (after.store ≡ before.store) × KeepsBelow before.arenas after.arenas (base + is.call.call.pred.arity)
-    × TellsHead before.store.now.terms after.arenas.blocks.slots (clause_block base is.call.call.pred c) found (matched_all_in (bindings before.store.now.state) c.head called.args (replicate c.slots None))
+    (is : CallIs made.before call.predicate call.base call.frame number called (c ∷ cs) s k es again) → slice_get made.before.loaded.code.rules.items number ≡ Some rule → arity ≡ is.call.call.pred.arity → HasArguments made.before call.base is.call.call.pred.arity called →
+    (made.after.store ≡ made.before.store) × KeepsBelow made.before.arenas made.after.arenas (call.base + is.call.call.pred.arity)
+    × TellsHead made.before.store.now.terms made.after.arenas.blocks.slots (clause_block call.base is.call.call.pred c) found (matched_all_in (bindings made.before.store.now.state) c.head called.args (replicate c.slots None))
 
 -- the rules of a call from one on are tried
-abbrev pub TriesRules : {M : Type 0} → World M → World M → ℕ → ℕ → ℕ → ℕ → Bool → Now → Type 0
-TriesRules before after p base frame from again now =
-    (called : Called) (cs : List ClauseTree) (s : State) (k : List Frame) (es : List EntryData) → (is : CallIs before p base frame from called cs s k es again) →
-    HasArguments before base is.call.call.pred.arity called → s ≡ before.store.now.state → Stands after now (try_rules called cs (back_to [] s k) es)
+abbrev pub TriesRules : {M : Type 0} → Call → ℕ → Bool → Change M → Type 0
+TriesRules call from again made =
+    (called : Called) (cs : List ClauseTree) (s : State) (k : List Frame) (es : List EntryData) → (is : CallIs made.before call.predicate call.base call.frame from called cs s k es again) →
+    HasArguments made.before call.base is.call.call.pred.arity called → s ≡ made.before.store.now.state → Stands made.after made.now (try_rules called cs (back_to [] s k) es)
 
 -- a rule whose head matches: its condition is entered, or its body where it has none
-abbrev pub AppliesRule : {M : Type 0} → World M → World M → ℕ → ℕ → ℕ → ℕ → Bool → Predicate → Rule → Now → Type 0
-AppliesRule before after p base frame number again predicate rule now =
+abbrev pub AppliesRule : {M : Type 0} → Call → ℕ → Bool → Predicate → Rule → Change M → Type 0
+AppliesRule call number again predicate rule made =
     (called : Called) (c : ClauseTree) (cs : List ClauseTree) (s : State) (k : List Frame) (es : List EntryData) (e : Places) →
-    Applies before p base frame number called c cs s k es again predicate rule e → s ≡ before.store.now.state →
-    Stands after now (guarding c.guard (trial called c cs (back_to [] s k) es) e)
+    Applies made.before call.predicate call.base call.frame number called c cs s k es again predicate rule e → s ≡ made.before.store.now.state →
+    Stands made.after made.now (guarding c.guard (trial called c cs (back_to [] s k) es) e)
 
 -- the facts of a call from one on are tried
-abbrev pub TriesFacts : {M : Type 0} → World M → World M → ℕ → ℕ → ℕ → ℕ → Bool → Now → Type 0
-TriesFacts before after p base frame from again now =
-    (ts : Trees) (cs : List ClauseTree) (s : State) (k : List Frame) (es : List EntryData) → (is : CallIs before p base frame from (record { function = false; args = ts }) cs s k es again) →
-    HasArguments before base is.call.call.pred.arity (record { function = false; args = ts }) → s ≡ before.store.now.state → Stands after now (try_facts ts cs (back_to [] s k) es)
+abbrev pub TriesFacts : {M : Type 0} → Call → ℕ → Bool → Change M → Type 0
+TriesFacts call from again made =
+    (ts : Trees) (cs : List ClauseTree) (s : State) (k : List Frame) (es : List EntryData) → (is : CallIs made.before call.predicate call.base call.frame from (record { function = false; args = ts }) cs s k es again) →
+    HasArguments made.before call.base is.call.call.pred.arity (record { function = false; args = ts }) → s ≡ made.before.store.now.state → Stands made.after made.now (try_facts ts cs (back_to [] s k) es)
 
 -- the clauses of a call that was made just now
-abbrev pub TriesClauses : {M : Type 0} → World M → World M → ℕ → ℕ → ℕ → ℕ → Now → Type 0
-TriesClauses before after p base frame from now =
-    (ts : Trees) (cs : List ClauseTree) (s : State) (k : List Frame) (es : List EntryData) → (is : CallIs before p base frame from (record { function = false; args = ts }) cs s k es false) →
-    HasArguments before base is.call.call.pred.arity (record { function = false; args = ts }) → s ≡ before.store.now.state → Stands after now (try_clauses is.call.call.pred.index cs ts (back_to [] s k) es)
+abbrev pub TriesClauses : {M : Type 0} → Call → ℕ → Change M → Type 0
+TriesClauses call from made =
+    (ts : Trees) (cs : List ClauseTree) (s : State) (k : List Frame) (es : List EntryData) → (is : CallIs made.before call.predicate call.base call.frame from (record { function = false; args = ts }) cs s k es false) →
+    HasArguments made.before call.base is.call.call.pred.arity (record { function = false; args = ts }) → s ≡ made.before.store.now.state → Stands made.after made.now (try_clauses is.call.call.pred.index cs ts (back_to [] s k) es)
 
 -- a call's entry waits for the fact with a number, or is gone where none is left
-abbrev pub LeavesLater : {M : Type 0} → (M → ℕ) → StoreView M → StoreView M → ArenasView M → ArenasView M → ℕ → ℕ → ℕ → ℕ → Bool → Option ℕ → Type 0
-LeavesLater order v w a b slots p base frame again (Some next) = KeepsCall order v w a b slots base frame (Kind.Facts p next) again
-LeavesLater order v w a b slots p base frame again None = (w ≡ v) × (again ≡ true → DropsNewest a b) × (again ≡ false → b ≡ a)
+abbrev pub LeavesLater : {M : Type 0} → (M → ℕ) → Between M → Call → ℕ → Bool → Option ℕ → Type 0
+LeavesLater order x call slots again (Some next) = KeepsCall order x (keeping slots call.base call.frame (Kind.Facts call.predicate next)) again
+LeavesLater order x call slots again None = (x.store_then ≡ x.store) × (again ≡ true → DropsNewest x.arenas x.arenas_then) × (again ≡ false → x.arenas_then ≡ x.arenas)

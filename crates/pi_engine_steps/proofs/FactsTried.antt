@@ -18,14 +18,14 @@ use Rattle.pi_engine_code.specs.Code.{preds_of}
 use Rattle.pi_engine_code.specs.declared.code.Predicate.{Predicate}
 use Rattle.pi_engine_code.specs.declared.code.Code.{Code}
 use Rattle.pi_constraints.specs.Value.{IsAcyclic}
-use Rattle.pi_engine_arenas.specs.Arenas.{ArenasView, DropsNewest}
+use Rattle.pi_engine_arenas.specs.Arenas.{ArenasView, DropsNewest, between, keeping}
 use Rattle.pi_engine_arenas.specs.declared.arenas.Back.{Back}
 use Rattle.pi_engine_arenas.specs.declared.arenas.Kind.{Kind}
 use Rattle.pi_engine_arenas.specs.declared.arenas.Entry.{Entry}
 use Rattle.pi_engine_arenas.specs.declared.run.Now.{Now}
 use Rattle.pi_meaning.specs.Machine.Configuration.{Frame, Called, config, failed, choice, facts_left, in_places, Back as BackData, Entry as EntryData}
 use Rattle.pi_meaning.specs.Machine.Step.{with_fact, from_unifying, silently, fail_step, try_facts, try_rules, try_clauses, back_to}
-use Rattle.pi_engine_facts.specs.Trying.{IsFirst, IsNext}
+use Rattle.pi_engine_facts.specs.Trying.{IsFirst, IsNext, numbered}
 use Rattle.pi_engine_facts.proofs.TryingLemmas.{next-there}
 use Rattle.pi_engine_stands.specs.Here.{Here, AreHeld, HoldsArguments}
 use Rattle.pi_engine_stands.specs.Stands.{World, Loaded, tables_in, now_here, back_here, IsPredicateOf, CallStands, KindIs, rules_kind, facts_kind, branches_kind, once_kind, not_kind, if_kind, guard_kind, apply_kind, collect_kind, count_kind, catch_kind, exit_kind, Stands}
@@ -37,9 +37,11 @@ use Rattle.pi_engine_stands.proofs.CallsTried.{call-ended}
 use Rattle.pi_engine_stands.proofs.MissingStand.{terms-of-held}
 use Rattle.pi_engine_stands.proofs.CallEntries.{same-stays}
 use Rattle.pi_engine_stands.proofs.FactsStand.{facts-left, facts-end, fact-taken}
-use Rattle.pi_engine_steps.specs.declared.rules.Call.{Call}
+use Rattle.pi_engine_arenas.specs.declared.frames.Call.{Call}
 use Rattle.pi_engine_steps.specs.Facts.{TakesFact, TriesSome}
 use Rattle.pi_engine_steps.proofs.RetriesStand.{again}
+use Rattle.pi_engine_stands.specs.Changes.{change}
+use Rattle.pi_engine_arenas.specs.Frames.{call_at}
 
 pub same-pred : (o : Option PredTree) (p q : PredTree) → o ≡ Some p → o ≡ Some q → p ≡ q
 same-pred o p q h k = cc
@@ -102,7 +104,7 @@ item-of ds i c rest here =
     (d.0, d.1, same-head (clause_tree d.0) c (drop (i + 1) (map clause_tree ds)) rest (sym (next-there ds i d.0 d.1) ∙ here))
 
 -- the same of the clauses of the predicate
-abbrev first-of : (ts : Trees) (s : State) (cs ds : List ClauseTree) (first from end number : ℕ) → cs ≡ ds → IsFirst ts s ds first from end number → IsFirst ts s cs first from end number
+abbrev first-of : (ts : Trees) (s : State) (cs ds : List ClauseTree) (first from end number : ℕ) → cs ≡ ds → IsFirst ts s (numbered ds first end) from number → IsFirst ts s (numbered cs first end) from number
 first-of ts s cs ds first from end number same found =
     record {
       from_on = found.from_on;
@@ -117,17 +119,17 @@ first-of ts s cs ds first from end number same found =
 
 pub some-taken : {M : Type 0} (w : World M) (v x u : StoreView M) (b : ArenasView M) (p base frame from number : ℕ) (pred : PredTree) (predicate : Predicate) (facts : List CoreClause) (asked : Ref) (ts : Trees) (cs : List ClauseTree) (s : State) (k : List Frame) (es : List EntryData)
     (again : Bool) (next : Option ℕ) (now : Now) → (is : CallIs w p base frame from (record { function = false; args = ts }) cs s k es again) → slice_get w.loaded.preds p ≡ Some pred → slice_get w.loaded.code.predicates.items p ≡ Some predicate → pred.clauses ≡ map clause_tree facts →
-    IsTerm w.store asked (comp [] ts) → s ≡ w.store.now.state → predicate.first ≤ from → Stays w.store v → IsFirst ts s (map clause_tree facts) predicate.first from predicate.end number → IsNext ts s (map clause_tree facts) predicate.first (number + 1) predicate.end next →
-    LeavesLater w.order v x w.arenas b (base + predicate.arity) p base frame again next → Stays v x →
-    ((d : CoreClause) → slice_get facts (number - predicate.first) ≡ Some d → IsState x.now.state → IsTerm x asked (comp [] ts) → TakesFact x u ts (clause_tree d) base frame now) →
+    IsTerm w.store asked (comp [] ts) → s ≡ w.store.now.state → predicate.first ≤ from → Stays w.store v → IsFirst ts s (numbered (map clause_tree facts) predicate.first predicate.end) from number → IsNext ts s (numbered (map clause_tree facts) predicate.first predicate.end) (number + 1) next →
+    LeavesLater w.order (between v x w.arenas b) (call_at p base frame) (base + predicate.arity) again next → Stays v x →
+    ((d : CoreClause) → slice_get facts (number - predicate.first) ≡ Some d → IsState x.now.state → IsTerm x asked (comp [] ts) → TakesFact x u ts (clause_tree d) (call_at 0 base frame) now) →
     Stands (moved w u b) now (try_facts ts cs (back_to [] s k) es)
 some-taken w v x u b p base frame from number pred predicate facts asked ts cs s k es again next now is at there clauses term same low stays found later leaves also takes =
     let there_is : IsPredicateOf w.loaded.code (tables_in w.loaded) w.store.names is.call.call.pred predicate = there-of w p base frame from (record { function = false; args = ts }) cs s k es again predicate is there in
     let it : (d : CoreClause) × (slice_get facts (number - predicate.first) ≡ Some d) × (clause_tree d ≡ found.fact) = item-of facts (number - predicate.first) found.fact found.behind found.here in
     let state : IsState x.now.state = subst IsState (sym (also.state ∙ stays.state)) is.state in
-    let it_takes : TakesFact x u ts (clause_tree it.0) base frame now = takes it.0 it.1 state (also.keeps.terms asked (comp [] ts) (stays.keeps.terms asked (comp [] ts) term)) in
+    let it_takes : TakesFact x u ts (clause_tree it.0) (call_at 0 base frame) now = takes it.0 it.1 state (also.keeps.terms asked (comp [] ts) (stays.keeps.terms asked (comp [] ts) term)) in
     fact-taken w v x u b p base frame from number (base + predicate.arity) pred predicate ts cs s k es again next it_takes.one now is same stays at there low (ap (λ n. base + n) there_is.arity)
-    (first-of ts s pred.clauses (map clause_tree facts) predicate.first from predicate.end number clauses found) (subst (λ ds. IsNext ts s ds predicate.first (number + 1) predicate.end next) (sym clauses) later) leaves it_takes.keeps
+    (first-of ts s pred.clauses (map clause_tree facts) predicate.first from predicate.end number clauses found) (subst (λ ds. IsNext ts s (numbered ds predicate.first predicate.end) (number + 1) next) (sym clauses) later) leaves it_takes.keeps
     (subst (λ c. Answers (with_fact ts x.now.state c) it_takes.one u.now.state) it.2 it_takes.answers) it_takes.sound it_takes.next
 
 -- no fact is left that unifies
@@ -188,7 +190,7 @@ facts-step : (y : EntryData) (ts : Trees) (cs : List ClauseTree) (b : BackData) 
 unfolding fail_step
 facts-step y ts cs b es is = ap (λ q. fail_step (q ∷ es)) is
 
-pub facts-retried : {M : Type 0} (w after : World M) (back : Back) (p r : ℕ) (y : EntryData) (es : List EntryData) (now : Now) → back.kind ≡ Kind.Facts p r → IsBack w back y es → TriesFacts w after p back.base back.frame r true now → ComesTo after now (fail_step (y ∷ es))
+pub facts-retried : {M : Type 0} (w after : World M) (back : Back) (p r : ℕ) (y : EntryData) (es : List EntryData) (now : Now) → back.kind ≡ Kind.Facts p r → IsBack w back y es → TriesFacts (call_at p back.base back.frame) r true (change w after now) → ComesTo after now (fail_step (y ∷ es))
 facts-retried w after back p r y es now named it tries =
     let x : Entry _ = it.entry in
     let top : ℕ = length w.arenas.collected in
@@ -198,15 +200,15 @@ facts-retried w after back p r y es now named it tries =
     let called : Called = record { function = false; args = shape.args } in
     subst (ComesTo after now) (sym (facts-step y shape.args shape.facts (back_to [] t shape.frames) es shape.is))
     (subst (λ s. Stands after now (try_facts shape.args shape.facts (back_to [] s shape.frames) es)) it.now
-    (subst (λ q. TriesFacts w after p q.base q.frame r true now) (sym it.back_is) tries shape.args shape.facts w.store.now.state shape.frames es (again w back y es it p r called shape.facts shape.frames shape.one shape.stands shape.over)
+    (subst (λ q. TriesFacts (call_at p q.base q.frame) r true (change w after now)) (sym it.back_is) tries shape.args shape.facts w.store.now.state shape.frames es (again w back y es it p r called shape.facts shape.frames shape.one shape.stands shape.over)
     (subst (λ h. HoldsArguments h.terms h.slots x.back.base shape.stands.call.pred.arity shape.args) (sym it.here) shape.stands.call.args) refl))
 
 pub facts-of : {M : Type 0} (w after : World M) (back : Back) (call : Call) (p r : ℕ) (now : Now) → call.predicate ≡ p → call.base ≡ back.base → call.frame ≡ back.frame →
-    TriesFacts w after call.predicate call.base call.frame r true now → TriesFacts w after p back.base back.frame r true now
+    TriesFacts call r true (change w after now) → TriesFacts (call_at p back.base back.frame) r true (change w after now)
 facts-of w after back call p r now one two three tries =
-    subst (λ n. TriesFacts w after n back.base back.frame r true now) one
-    (subst (λ n. TriesFacts w after call.predicate n back.frame r true now) two
-    (subst (λ n. TriesFacts w after call.predicate call.base n r true now) three tries))
+    subst (λ n. TriesFacts (call_at n back.base back.frame) r true (change w after now)) one
+    (subst (λ n. TriesFacts (call_at call.predicate n back.frame) r true (change w after now)) two
+    (subst (λ n. TriesFacts (call_at call.predicate call.base n) r true (change w after now)) three tries))
 
 -- there is such an entry's predicate
 pub no-facts : {M X : Type 0} (w : World M) (back : Back) (p r : ℕ) (y : EntryData) (es : List EntryData) → back.kind ≡ Kind.Facts p r → IsBack w back y es → slice_get w.loaded.code.predicates.items p ≡ None → X
@@ -249,10 +251,10 @@ fits-there w p base frame from ts cs s k es predicate code one is is_code there 
 
 -- ---- the state stays where a call is kept
 
-keeps-stay : {M : Type 0} (order : M → ℕ) (v w : StoreView M) (a b : ArenasView M) (slots base frame : ℕ) (kind : Kind) (again : Bool) → KeepsCall order v w a b slots base frame kind again → Stays v w
+keeps-stay : {M : Type 0} (order : M → ℕ) (v w : StoreView M) (a b : ArenasView M) (slots base frame : ℕ) (kind : Kind) (again : Bool) → KeepsCall order (between v w a b) (keeping slots base frame kind) again → Stays v w
 keeps-stay order v w a b slots base frame kind again (keeps_new push) = push.marks.stays
 keeps-stay order v w a b slots base frame kind again (keeps_own same arenas) = subst (Stays v) (sym same) (same-stays v)
 
-pub later-stays : {M : Type 0} (order : M → ℕ) (v w : StoreView M) (a b : ArenasView M) (slots p base frame : ℕ) (again : Bool) (next : Option ℕ) → LeavesLater order v w a b slots p base frame again next → Stays v w
+pub later-stays : {M : Type 0} (order : M → ℕ) (v w : StoreView M) (a b : ArenasView M) (slots p base frame : ℕ) (again : Bool) (next : Option ℕ) → LeavesLater order (between v w a b) (call_at p base frame) slots again next → Stays v w
 later-stays order v w a b slots p base frame again None leaves = subst (Stays v) (sym leaves.0) (same-stays v)
 later-stays order v w a b slots p base frame again (Some n) leaves = keeps-stay order v w a b slots base frame (Kind.Facts p n) again leaves

@@ -21,7 +21,7 @@ use Rattle.pi_core.specs.declared.core_program.NameSlot.{NameSlot}
 use Rattle.pi_core.specs.declared.answer.NamedTerm.{NamedTerm}
 use Rattle.pi_core.specs.declared.answer.Answer.{Answer}
 use Rattle.pi_engine_arenas.specs.declared.frames.Point.{Point}
-use Rattle.pi_engine_arenas.specs.Arenas.{ArenasView, entry_at}
+use Rattle.pi_engine_arenas.specs.Arenas.{ArenasView, entry_at, between}
 use Rattle.pi_meaning.specs.Machine.Configuration.{Frame, Entry as EntryData, config, going, raising}
 use Rattle.pi_meaning.specs.Machine.Step.{silently, step, answer_step, told_step, fits, Open, none_open, strict_open, catch_open, newest_open}
 use Rattle.pi_engine_stands.specs.Here.{Block, Holds}
@@ -41,6 +41,8 @@ use Rattle.pi_engine_stands.proofs.CallLemmas.{evaluated-state}
 use Rattle.pi_engine_stands.proofs.SlotsStand.{writes-none, writes-then}
 use Rattle.pi_engine_stands.proofs.EqualStands.{stack-moved}
 use Rattle.pi_engine_stands.proofs.AnswerStand.{Arrives, arrives}
+use Rattle.pi_engine_stands.specs.Changes.{change}
+use Rattle.pi_engine_arenas.specs.declared.run.Now.{Now}
 
 -- ---- slots that are read one after the other
 
@@ -131,7 +133,7 @@ names-at n (y ∷ names) (suc i) x are at = names-at n names i x are.1 at
 -- the first names are told; the others are left, in what is there then
 pub record TellsFirst {M : Type 0} (b : Block) (v w : StoreView M) (a c : ArenasView M) (names : List NameSlot) (e : Places) (i : ℕ) (values : List NamedTerm) : Type 0 where
   pub slots : Places
-  pub writes : Writes b v w a c slots w.now.state
+  pub writes : Writes b (between v w a c) slots w.now.state
   pub state : IsState w.now.state
   pub later : IsLater v.now.state w.now.state e slots
   pub all : values ++ named_values (drop i names) slots w.now.state ≡ named_values names e v.now.state
@@ -158,12 +160,12 @@ fits-not n names x many = ap (λ q. cond q false (fits names x)) (lt-ltb most_ce
 
 -- one name more
 pub tells-more : {M : Type 0} (b : Block) (v w u : StoreView M) (a c d : ArenasView M) (names : List NameSlot) (e : Places) (i : ℕ) (values new : List NamedTerm) (n : NameSlot) (x : NamedTerm) → slice_get names i ≡ Some n → IsState v.now.state →
-    (before : TellsFirst b v w a c names e i values) → NamesValue b w u c d n (evaluated (var n.slot) before.slots w.now.state) (Some x) → new ≡ values ++ x ∷ [] → TellsFirst b v u a d names e (i + 1) new
+    (before : TellsFirst b v w a c names e i values) → NamesValue b (between w u c d) n (evaluated (var n.slot) before.slots w.now.state) (Some x) → new ≡ values ++ x ∷ [] → TellsFirst b v u a d names e (i + 1) new
 tells-more b v w u a c d names e i values new n x at state before one pushed =
     let y : Evaluated = evaluated (var n.slot) before.slots w.now.state in
     let left : drop i names ≡ n ∷ drop (i + 1) names = drop-first names i n at in
     let now : u.now.state ≡ y.state = one.0.state in
-    let there : Writes b w u c d y.slots u.now.state = subst (λ q. Writes b w u c d y.slots q) (sym now) one.0 in
+    let there : Writes b (between w u c d) y.slots u.now.state = subst (λ q. Writes b (between w u c d) y.slots q) (sym now) one.0 in
     let few : cells (slot_value n.slot e v.now.state) ≤ most_cells = subst (λ k. k ≤ most_cells) (as-many v.now.state w.now.state n.slot e before.slots state.acyclic before.later) one.1.1 in
     record {
       slots = y.slots;
@@ -209,7 +211,7 @@ TellsSo v w a c names i values =
 pub query-told : {M : Type 0} (w : World M) (u : StoreView M) (c : ArenasView M) (names : List NameSlot) (i : ℕ) (answer : Answer) (p : Point) (view : View) (e : Places) (k : List Frame) (es : List EntryData) → TellsSo w.store u w.arenas c names i answer.values →
     (IsAcyclic (bindings u.now.state) → AreUnbound u.now.state (occurring answer.values) → answer.domains ≡ told_domains u.now.state (answer_variables answer.values)) →
     length names ≤ i → StandsGoing w p no_goals e k es → p.count ≡ 0 → p.frame ≡ 0 → w.arenas.level ≡ 0 → AreNames w.loaded.query_slots names →
-    (x : Solution) × SilentlyTo view w.loaded.preds names (config (going no_goals e w.store.now.state k) es) (config (going no_goals x.slots x.state []) es) × IsTold view w.loaded.preds names x es (moved w u c) (Ok answer)
+    (x : Solution) × SilentlyTo view w.loaded.preds names (config (going no_goals e w.store.now.state k) es) (config (going no_goals x.slots x.state []) es) × IsTold view (change w (moved w u c) Now.Failing) names x es (Ok answer)
 unfolding fits named_values
 query-told w u c names i answer p view e k es tells domains all stands none last level are =
     let there : Arrives w view names (query_block w.loaded.query_slots) e k es = query-arrives w p view names e k es stands none last level in
@@ -231,9 +233,9 @@ query-told w u c names i answer p view e k es tells domains all stands none last
 
 pub query-raises : {M : Type 0} (w after : World M) (u z : StoreView M) (c d : ArenasView M) (names : List NameSlot) (i : ℕ) (values : List NamedTerm) (n : NameSlot) (ball : Tree) (p : Point) (view : View) (e : Places) (k : List Frame) (es : List EntryData) →
     TellsSo w.store u w.arenas c names i values → slice_get names i ≡ Some n →
-    ((b : Block) (f : Places) → b.base ≡ 0 → b.first ≡ 0 → n.slot < b.count → Holds u.now.terms c.blocks.slots b f → IsState u.now.state → NamesValue b u z c d n (evaluated (var n.slot) f u.now.state) None) →
+    ((b : Block) (f : Places) → b.base ≡ 0 → b.first ≡ 0 → n.slot < b.count → Holds u.now.terms c.blocks.slots b f → IsState u.now.state → NamesValue b (between u z c d) n (evaluated (var n.slot) f u.now.state) None) →
     ball ≡ atom (codes "term_too_large") → StandsGoing w p no_goals e k es → p.count ≡ 0 → p.frame ≡ 0 → w.arenas.level ≡ 0 → AreNames w.loaded.query_slots names →
-    (x : Solution) × SilentlyTo view w.loaded.preds names (config (going no_goals e w.store.now.state k) es) (config (going no_goals x.slots x.state []) es) × IsTold view w.loaded.preds names x es after (Err ball)
+    (x : Solution) × SilentlyTo view w.loaded.preds names (config (going no_goals e w.store.now.state k) es) (config (going no_goals x.slots x.state []) es) × IsTold view (change w after Now.Failing) names x es (Err ball)
 query-raises w after u z c d names i values n ball p view e k es tells at one raised stands none last level are =
     let b : Block = query_block w.loaded.query_slots in
     let there : Arrives w view names b e k es = query-arrives w p view names e k es stands none last level in
@@ -241,7 +243,7 @@ query-raises w after u z c d names i values n ball p view e k es tells at one ra
     let s : State = w.store.now.state in
     let x : Solution = record { slots = f; state = s } in
     let done : TellsFirst b w.store u w.arenas c names f i values = tells w.loaded.query_slots f are there.holds stands.entries.state in
-    let large : NamesValue b u z c d n (evaluated (var n.slot) done.slots u.now.state) None = one b done.slots refl refl (names-at w.loaded.query_slots names i n are at) done.writes.holds done.state in
+    let large : NamesValue b (between u z c d) n (evaluated (var n.slot) done.slots u.now.state) None = one b done.slots refl refl (names-at w.loaded.query_slots names i n are at) done.writes.holds done.state in
     let many : most_cells < cells (slot_value n.slot f s) = subst (λ m. most_cells < m) (as-many s u.now.state n.slot f done.slots stands.entries.state.acyclic done.later) large.1 in
     let open_none : newest_open zero es ≡ none_open = no-open es (newest_open zero es) refl (newest-number zero es ∙ sym stands.entries.level ∙ level) in
     let not_fit : fits names x ≡ false = done.fit ∙ ap (λ ns. fits ns x) (drop-first names i n at) ∙ fits-not n (drop (i + 1) names) x many in (
@@ -254,14 +256,14 @@ query-raises w after u z c d names i values n ball p view e k es tells at one ra
 
 pub name-read : {M : Type 0} (b : Block) (v w : StoreView M) (a c : ArenasView M) (n : NameSlot) (e : Places) (slot : ℕ) (r : Ref) (read : Option Tree) (found : Option NamedTerm) → b.base ≡ 0 → b.first ≡ 0 → n.slot < b.count → Holds v.now.terms a.blocks.slots b e → IsState v.now.state →
     slot ≡ slot_number 0 n.slot →
-    ((d : Block) (k : ℕ) (f : Places) → slot ≡ slot_number (slot_number d.base d.first) k → k < d.count → Holds v.now.terms a.blocks.slots d f → Evaluates d v w a c (slot_term (held f k) k f v.now.state) r) →
+    ((d : Block) (k : ℕ) (f : Places) → slot ≡ slot_number (slot_number d.base d.first) k → k < d.count → Holds v.now.terms a.blocks.slots d f → Evaluates d (between v w a c) (slot_term (held f k) k f v.now.state) r) →
     ((t : Tree) → IsTerm w r t → IsAcyclic (bindings w.now.state) → IsRead (value (bindings w.now.state) t) read) → ((t : Tree) → IsRead t read → IsNamed n t found) →
-    NamesValue b v w a c n (evaluated (var n.slot) e v.now.state) found
+    NamesValue b (between v w a c) n (evaluated (var n.slot) e v.now.state) found
 name-read b v w a c n e slot r read found base first within holds state at reads tells names =
     let y : Evaluated = evaluated (var n.slot) e v.now.state in
     let zero_is : 0 ≡ slot_number b.base b.first = omega (arith, base, first) in
-    let got : Evaluates b v w a c y r =
-    subst (λ q. Evaluates b v w a c q r) (sym (slot-is n.slot e v.now.state)) (reads b n.slot e (at ∙ ap (λ m. slot_number m n.slot) zero_is) within holds) in
+    let got : Evaluates b (between v w a c) y r =
+    subst (λ q. Evaluates b (between v w a c) q r) (sym (slot-is n.slot e v.now.state)) (reads b n.slot e (at ∙ ap (λ m. slot_number m n.slot) zero_is) within holds) in
     let sound : IsState w.now.state = subst IsState (sym got.writes.state) (evaluated-state (var n.slot) e v.now.state state) in
     (got.writes, subst (λ q. IsNamed n (value (bindings q) y.tree) found) got.writes.state (names (value (bindings w.now.state) y.tree) (tells y.tree got.term sound.acyclic)))
 

@@ -10,7 +10,7 @@ use Rattle.pi_engine_arenas.specs.declared.arenas.Kind.{Kind}
 use Rattle.pi_engine_arenas.specs.declared.arenas.Strict.{Strict as StrictKind}
 use Rattle.pi_engine_code.specs.declared.code.Predicate.{Predicate}
 use Rattle.pi_engine_arenas.specs.declared.run.Now.{Now}
-use Rattle.pi_engine_steps.specs.declared.rules.Call.{Call}
+use Rattle.pi_engine_arenas.specs.declared.frames.Call.{Call}
 use Rattle.pi_engine_arenas.specs.Arenas.{entry_at, slots_kept_by}
 use Rattle.pi_engine_arenas.specs.declared.arenas.Entry.{Entry}
 use Rattle.pi_meaning.specs.Machine.Configuration.{Frame, Called, Entry as EntryData, choice, rules_left, Strict, strict, guard_level, Back as BackData}
@@ -23,6 +23,8 @@ use Rattle.pi_terms.proofs.ListLemmas.{take-take}
 use Rattle.pi_terms.proofs.OptionLemmas.{one-some}
 use Rattle.pi_engine_stands.proofs.BasesStand.{block-above, level-begins}
 use Rattle.pi_engine_stands.proofs.BackStand.{back-agrees}
+use Rattle.pi_engine_stands.specs.Changes.{change}
+use Rattle.pi_engine_arenas.specs.Frames.{call_at}
 
 -- what is there agrees with an entry that was come back to just now
 pub agrees-itself : {M : Type 0} (w : World M) (x : Entry M) → now_here w ≡ back_here w x → x.back.base ≤ length (back_here w x).slots → agrees_from w (Some x) (now_here w)
@@ -85,10 +87,10 @@ again w back y es it p r called cs k none stands over =
 -- its rules from one on are tried
 again-tried : {M : Type 0} (w after : World M) (back : Back) (y : EntryData) (es : List EntryData) (it : IsBack w back y es) (p r : ℕ) (called : Called) (cs : List ClauseTree) (k : List Frame) (now : Now) → it.from ≡ length w.arenas.collected →
     (stands : CallStands w.loaded (back_here w it.entry) it.entry.back.base it.entry.back.frame p r called cs k) → it.entry.back.blocks.slots ≤ it.entry.back.base + stands.call.pred.arity →
-    TriesRules w after p back.base back.frame r true now → Stands after now (try_rules called cs (back_to [] (w.store.at_mark it.entry.mark).state k) es)
+    TriesRules (call_at p back.base back.frame) r true (change w after now) → Stands after now (try_rules called cs (back_to [] (w.store.at_mark it.entry.mark).state k) es)
 again-tried w after back y es it p r called cs k now none stands over tries =
     subst (λ s. Stands after now (try_rules called cs (back_to [] s k) es)) it.now
-    (subst (λ q. TriesRules w after p q.base q.frame r true now) (sym it.back_is) tries called cs w.store.now.state k es (again w back y es it p r called cs k none stands over)
+    (subst (λ q. TriesRules (call_at p q.base q.frame) r true (change w after now)) (sym it.back_is) tries called cs w.store.now.state k es (again w back y es it p r called cs k none stands over)
     (subst (λ h. HoldsArguments h.terms h.slots it.entry.back.base stands.call.pred.arity called.args) (sym it.here) stands.call.args) refl)
 
 -- ---- the rules that are left
@@ -127,13 +129,13 @@ rules-step y called cs b es is = ap (λ q. fail_step (q ∷ es)) is
 
 -- what is told of the call of an entry
 pub tries-of : {M : Type 0} (w after : World M) (back : Back) (call : Call) (p r : ℕ) (now : Now) → call.predicate ≡ p → call.base ≡ back.base → call.frame ≡ back.frame →
-    TriesRules w after call.predicate call.base call.frame r true now → TriesRules w after p back.base back.frame r true now
+    TriesRules call r true (change w after now) → TriesRules (call_at p back.base back.frame) r true (change w after now)
 tries-of w after back call p r now one two three tries =
-    subst (λ n. TriesRules w after n back.base back.frame r true now) one
-    (subst (λ n. TriesRules w after call.predicate n back.frame r true now) two
-    (subst (λ n. TriesRules w after call.predicate call.base n r true now) three tries))
+    subst (λ n. TriesRules (call_at n back.base back.frame) r true (change w after now)) one
+    (subst (λ n. TriesRules (call_at call.predicate n back.frame) r true (change w after now)) two
+    (subst (λ n. TriesRules (call_at call.predicate call.base n) r true (change w after now)) three tries))
 
-pub rules-retried : {M : Type 0} (w after : World M) (back : Back) (p r : ℕ) (y : EntryData) (es : List EntryData) (now : Now) → back.kind ≡ Kind.Rules p r → IsBack w back y es → TriesRules w after p back.base back.frame r true now →
+pub rules-retried : {M : Type 0} (w after : World M) (back : Back) (p r : ℕ) (y : EntryData) (es : List EntryData) (now : Now) → back.kind ≡ Kind.Rules p r → IsBack w back y es → TriesRules (call_at p back.base back.frame) r true (change w after now) →
     ComesTo after now (fail_step (y ∷ es))
 rules-retried w after back p r y es now named it tries =
     let x : Entry _ = it.entry in
@@ -182,7 +184,7 @@ unfolding end_step
 guard-step s called c cs b d es level back = ap (λ q. end_step q b es) level ∙ ap (λ q. end_step (guard_level called c cs) q es) back
 
 pub guard-retried : {M : Type 0} (w after : World M) (back : Back) (p r next end : ℕ) (s : Strict) (b : BackData) (es : List EntryData) (now : Now) → back.kind ≡ Kind.Strict (StrictKind.Guard p r) → IsBack w back (strict s b) es →
-    ((q : Predicate) → slice_get w.loaded.code.predicates.items p ≡ Some q → end ≡ q.end) → end < 4294967296 → next ≡ min (min (r + 1) 4294967295) end → TriesRules w after p back.base back.frame next true now →
+    ((q : Predicate) → slice_get w.loaded.code.predicates.items p ≡ Some q → end ≡ q.end) → end < 4294967296 → next ≡ min (min (r + 1) 4294967295) end → TriesRules (call_at p back.base back.frame) next true (change w after now) →
     Stands after now (end_step s b es)
 guard-retried w after back p r next end s b es now named it finds small following tries =
     let x : Entry _ = it.entry in
@@ -214,4 +216,4 @@ guard-retried w after back p r next end s b es now named it finds small followin
       frames = shape.stands.frames;
       returns = shape.stands.returns;
       alone = shape.stands.alone;
-    }) shape.over (subst (λ m. TriesRules w after p back.base back.frame m true now) next_is tries))
+    }) shape.over (subst (λ m. TriesRules (call_at p back.base back.frame) m true (change w after now)) next_is tries))

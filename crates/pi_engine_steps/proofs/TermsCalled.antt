@@ -26,7 +26,7 @@ use Rattle.pi_engine_code.specs.Callables.{place_in}
 use Rattle.pi_engine_arenas.specs.declared.frames.Point.{Point}
 use Rattle.pi_engine_arenas.specs.declared.run.Now.{Now}
 use Rattle.pi_engine_arenas.specs.Blocks.{BlocksView, KeepsBlocks}
-use Rattle.pi_engine_arenas.specs.Arenas.{ArenasView}
+use Rattle.pi_engine_arenas.specs.Arenas.{ArenasView, between}
 use Rattle.pi_engine_arenas.specs.Frames.{PushesBehind}
 use Rattle.pi_meaning.specs.Machine.Configuration.{Frame, going, raising, behind, returning, Entry as EntryData, in_places}
 use Rattle.pi_meaning.specs.Machine.Step.{goal_step, first_now, unknown_by, goal_called, with_rest}
@@ -57,7 +57,7 @@ pub record FirstRead {M : Type 0} (u : StoreView M) (all : EvaluatedAll) (rs : L
 
 pub first-read : {M : Type 0} (w : World M) (u : StoreView M) (b : ArenasView M) (p : Point) (s : Step) (operands arity : ℕ) (rs : List Ref) (g : GoalTree) (gs : GoalTrees) (e : Places) (k : List Frame) (es : List EntryData) →
     s.node ≡ Node.CallTerm operands arity → slice_get (steps_of w.loaded) p.place ≡ Some s → (stands : StandsGoing w p (goal g gs) e k es) →
-    EvaluatesAll (block_of w p g gs e k es stands) w.store u w.arenas b (term_arguments w operands arity e) rs → FirstRead u (term_arguments w operands arity e) rs
+    EvaluatesAll (block_of w p g gs e k es stands) (between w.store u w.arenas b) (term_arguments w operands arity e) rs → FirstRead u (term_arguments w operands arity e) rs
 first-read w u b p s operands arity rs g gs e k es node at stands evaluates =
     let all : EvaluatedAll = term_arguments w operands arity e in
     let reads : TermReads w p g gs e k es stands operands arity = term-reads w p s g gs e k es operands arity node at stands in
@@ -84,7 +84,7 @@ first-is u (q ∷ rs) r t ts are one = subst (λ x. IsTerm u x t) (sym (one q re
 
 pub not-callable : {M : Type 0} (w : World M) (u : StoreView M) (b : ArenasView M) (p : Point) (s : Step) (operands arity : ℕ) (rs parts : List Ref) (r : Ref) (name : Option ℕ) (ball : Tree) (view : View) (g : GoalTree) (gs : GoalTrees) (e : Places) (k : List Frame)
     (es : List EntryData) → s.node ≡ Node.CallTerm operands arity → slice_get (steps_of w.loaded) p.place ≡ Some s → (stands : StandsGoing w p (goal g gs) e k es) →
-    EvaluatesAll (block_of w p g gs e k es stands) w.store u w.arenas b (term_arguments w operands arity e) rs → name ≡ None → Calls u name rs parts → ((q : Ref) → slice_get rs 0 ≡ Some q → r ≡ q) →
+    EvaluatesAll (block_of w p g gs e k es stands) (between w.store u w.arenas b) (term_arguments w operands arity e) rs → name ≡ None → Calls u name rs parts → ((q : Ref) → slice_get rs 0 ≡ Some q → r ≡ q) →
     ((x : Tree) → IsAcyclic (bindings u.now.state) → IsBall u (Fault.WrongKind FaultKind.Callable r) x → ball ≡ x) → StandsAfter (moved w u b) (Now.Raising ball) (goal_step view w.loaded.preds g e w.store.now.state (with_rest gs k es))
 not-callable w u b p s operands arity rs parts r name ball view g gs e k es node at stands evaluates none calls first told =
     let all : EvaluatedAll = term_arguments w operands arity e in
@@ -115,13 +115,13 @@ name-read u name n rs parts t ts is calls acyclic are =
     record { it = read.0; is = read.1; named = read.2; are = read.3; count = terms-count u parts read.0.args read.3 }
 
 stack-there : {M : Type 0} (w : World M) (u : StoreView M) (b : ArenasView M) (p : Point) (s : Step) (operands arity : ℕ) (rs : List Ref) (g : GoalTree) (gs : GoalTrees) (e : Places) (k : List Frame) (es : List EntryData) → (stands : StandsGoing w p (goal g gs) e k es) →
-    EvaluatesAll (block_of w p g gs e k es stands) w.store u w.arenas b (term_arguments w operands arity e) rs → IsState u.now.state → StackStands (moved w u b) es
+    EvaluatesAll (block_of w p g gs e k es stands) (between w.store u w.arenas b) (term_arguments w operands arity e) rs → IsState u.now.state → StackStands (moved w u b) es
 stack-there w u b p s operands arity rs g gs e k es stands evaluates state =
     let all : EvaluatedAll = term_arguments w operands arity e in stack-moved w u b (block_of w p g gs e k es stands) all.slots all.state es evaluates.writes state stands.entries
 
 pub not-found : {M : Type 0} (w : World M) (u : StoreView M) (b : ArenasView M) (p : Point) (s : Step) (operands arity : ℕ) (rs parts : List Ref) (name : Option ℕ) (n : ℕ) (ball : Tree) (view : View) (g : GoalTree) (gs : GoalTrees) (e : Places) (k : List Frame)
     (es : List EntryData) → s.node ≡ Node.CallTerm operands arity → slice_get (steps_of w.loaded) p.place ≡ Some s → (stands : StandsGoing w p (goal g gs) e k es) →
-    EvaluatesAll (block_of w p g gs e k es stands) w.store u w.arenas b (term_arguments w operands arity e) rs → name ≡ Some n → Calls u name rs parts → NamesAreDistinct u → place_in w.loaded.code.callables n (length parts) ≡ None →
+    EvaluatesAll (block_of w p g gs e k es stands) (between w.store u w.arenas b) (term_arguments w operands arity e) rs → name ≡ Some n → Calls u name rs parts → NamesAreDistinct u → place_in w.loaded.code.callables n (length parts) ≡ None →
     ((text : List ℕ) → IsName u n text → ball ≡ unknown_by (map pred_tree (preds_of w.loaded.code)) text (length parts)) → StandsAfter (moved w u b) (Now.Raising ball) (goal_step view w.loaded.preds g e w.store.now.state (with_rest gs k es))
 not-found w u b p s operands arity rs parts name n ball view g gs e k es node at stands evaluates some calls distinct none told =
     let all : EvaluatedAll = term_arguments w operands arity e in
@@ -142,7 +142,7 @@ not-found w u b p s operands arity rs parts name n ball view g gs e k es node at
 
 pub found-runs : {M : Type 0} (w : World M) (u : StoreView M) (b : ArenasView M) (fs : List Point) (c d : BlocksView) (p : Point) (s : Step) (operands arity : ℕ) (rs parts : List Ref) (name : Option ℕ) (n place frame : ℕ) (view : View) (g : GoalTree) (gs : GoalTrees) (e : Places)
     (k : List Frame) (es : List EntryData) → s.node ≡ Node.CallTerm operands arity → slice_get (steps_of w.loaded) p.place ≡ Some s → (stands : StandsGoing w p (goal g gs) e k es) →
-    EvaluatesAll (block_of w p g gs e k es stands) w.store u w.arenas b (term_arguments w operands arity e) rs → name ≡ Some n → Calls u name rs parts → place_in w.loaded.code.callables n (length parts) ≡ Some place →
+    EvaluatesAll (block_of w p g gs e k es stands) (between w.store u w.arenas b) (term_arguments w operands arity e) rs → name ≡ Some n → Calls u name rs parts → place_in w.loaded.code.callables n (length parts) ≡ Some place →
     PushesBehind p s b.frames fs frame → GivesBack b.blocks c p.base s.is_last → d.slots ≡ c.slots ++ map (λ r. Some r) parts → KeepsBlocks c d → d.kept ≡ c.kept →
     StandsAfter (moved w u (with_blocks (framed b fs) d)) (Now.Going (named_point place (length c.slots) frame)) (goal_step view w.loaded.preds g e w.store.now.state (with_rest gs k es))
 found-runs w u b fs c d p s operands arity rs parts name n place frame view g gs e k es node at stands evaluates some calls there pushes gives new keeps kept =

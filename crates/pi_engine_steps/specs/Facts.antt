@@ -14,18 +14,29 @@ use Rattle.pi_meaning.specs.Machine.Configuration.{Frame, Entry as EntryData}
 use Rattle.pi_meaning.specs.Machine.Step.{with_fact, try_facts, back_to}
 use Rattle.pi_engine_stands.specs.Stands.{World, Stands}
 use Rattle.pi_engine_stands.specs.Tries.{CallIs}
+use Rattle.pi_engine_stands.specs.Changes.{Change}
+use Rattle.pi_engine_arenas.specs.declared.frames.Call.{Call}
 
 -- a fact is unified with a call, and what is behind the call runs next
-pub record TakesFact {M : Type 0} (v u : StoreView M) (ts : Trees) (c : ClauseTree) (base frame : ℕ) (now : Now) : Type 0 where
+pub record TakesFact {M : Type 0} (v u : StoreView M) (ts : Trees) (c : ClauseTree) (call : Call) (now : Now) : Type 0 where
   pub one : Bool
   pub keeps : Keeps v u
   pub answers : Answers (with_fact ts v.now.state c) one u.now.state
   pub sound : one ≡ true → IsState u.now.state
-  pub next : now ≡ (if one then Now.Going (record { place = 0; count = 0; base = base; frame = frame }) else Now.Failing)
+  pub next : now ≡ (if one then Now.Going (record { place = 0; count = 0; base = call.base; frame = call.frame }) else Now.Failing)
+
+-- what is asked of a predicate's facts: the predicate, the facts, and the term whose arguments are those of the call
+pub record Asked : Type 0 where
+  pub predicate : Predicate
+  pub facts : List CoreClause
+  pub term : Ref
+
+abbrev pub asking : Predicate → List CoreClause → Ref → Asked
+asking predicate facts term = record { predicate = predicate; facts = facts; term = term }
 
 -- these facts of a call's predicate are tried from one on, where its arguments are those of a term
-abbrev pub TriesSome : {M : Type 0} → World M → World M → ℕ → ℕ → ℕ → ℕ → Predicate → List CoreClause → Ref → Bool → Now → Type 0
-TriesSome before after p base frame from predicate facts asked again now =
-    (pred : PredTree) (ts : Trees) (cs : List ClauseTree) (s : State) (k : List Frame) (es : List EntryData) → (is : CallIs before p base frame from (record { function = false; args = ts }) cs s k es again) →
-    slice_get before.loaded.preds p ≡ Some pred → slice_get before.loaded.code.predicates.items p ≡ Some predicate → pred.clauses ≡ map clause_tree facts →
-    IsTerm before.store asked (comp [] ts) → s ≡ before.store.now.state → Stands after now (try_facts ts cs (back_to [] s k) es)
+abbrev pub TriesSome : {M : Type 0} → Call → ℕ → Asked → Bool → Change M → Type 0
+TriesSome call from asked again made =
+    (pred : PredTree) (ts : Trees) (cs : List ClauseTree) (s : State) (k : List Frame) (es : List EntryData) → (is : CallIs made.before call.predicate call.base call.frame from (record { function = false; args = ts }) cs s k es again) →
+    slice_get made.before.loaded.preds call.predicate ≡ Some pred → slice_get made.before.loaded.code.predicates.items call.predicate ≡ Some asked.predicate → pred.clauses ≡ map clause_tree asked.facts →
+    IsTerm made.before.store asked.term (comp [] ts) → s ≡ made.before.store.now.state → Stands made.after made.now (try_facts ts cs (back_to [] s k) es)

@@ -4,10 +4,10 @@ ghost use Rattle.pi_terms.specs.Places.{Places};
 ghost use Rattle.pi_constraints.specs.State.{IsState};
 ghost use Rattle.pi_terms.specs.Tree.{var};
 ghost use Rattle.pi_constraints.specs.Evaluation.{evaluated};
-ghost use Rattle.pi_engine_arenas.specs.Arenas.{view_of};
-ghost use Rattle.pi_engine_stands.specs.Here.{Block, Holds};
-ghost use Rattle.pi_engine_stands.specs.Stands.{Loaded, world};
+ghost use Rattle.pi_engine_stands.specs.Here.{Block};
 ghost use Rattle.pi_engine_stands.specs.Answers.{NamesValue, AnswersQuery};
+ghost use Rattle.pi_engine_stands.specs.Changes.{Changes, HoldsIn};
+ghost use Rattle.pi_engine_arenas.specs.Runs.{across, state_in};
 
 use crate::lists::read_value;
 use crate::raises::too_large;
@@ -25,9 +25,7 @@ pub fn answer<S: StateStore>(
     run: &mut Run<S>,
     names: &[NameSlot],
 ) -> Result<Result<Answer, Term>, AllocError>
-    ensures { IfOk result (λ told. (l : Loaded) →
-        AnswersQuery (world l (S.seen run.old.store) S.order (view_of run.old.arenas))
-        (world l (S.seen run.new.store) S.order (view_of run.new.arenas)) names.now told) }
+    ensures { IfOk result (λ told. Changes S.seen S.order run.old run.new (AnswersQuery names.now told)) }
 {
     let mut values = Series::new(run.alloc);
     for named in names {
@@ -46,9 +44,9 @@ fn named_value<S: StateStore>(
     named: &NameSlot,
 ) -> Result<Option<NamedTerm>, AllocError>
     ensures { IfOk result (λ found. (b : Block) (e : Places) → b.base ≡ 0 → b.first ≡ 0 → named.now.slot < b.count →
-        Holds (S.seen run.old.store).now.terms run.old.arenas.blocks.slots b e → IsState (S.seen run.old.store).now.state →
-        NamesValue b (S.seen run.old.store) (S.seen run.new.store) (view_of run.old.arenas) (view_of run.new.arenas) named.now
-        (evaluated (var named.now.slot) e (S.seen run.old.store).now.state) found) }
+        HoldsIn S.seen run.old b e → IsState (state_in S.seen run.old) →
+        NamesValue b (across S.seen run.old run.new) named.now
+        (evaluated (var named.now.slot) e (state_in S.seen run.old)) found) }
 {
     let name = named.name.copy(run.alloc)?;
     let term = slot_value(run, slot_at(0, named.slot))?;

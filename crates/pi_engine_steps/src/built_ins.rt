@@ -6,11 +6,10 @@ ghost use Rattle.pi_effects.specs.Effect.{Effect};
 ghost use Rattle.pi_engine_code.specs.declared.code.Node.{Node};
 ghost use Rattle.pi_lib.specs.Outcomes.{ShowsOutcome};
 ghost use Rattle.pi_lib.specs.Runs.{IsRaised};
-ghost use Rattle.pi_engine_arenas.specs.Arenas.{view_of};
-ghost use Rattle.pi_engine_stands.specs.Stands.{Loaded, world};
 ghost use Rattle.pi_engine_stands.specs.Makes.{RunsGoal, RunsGoalIn};
 ghost use Rattle.pi_engine_stands.specs.Does.{ComesNext, IsTold};
 ghost use Rattle.pi_engine_steps.specs.Done.{IsDone};
+ghost use Rattle.pi_engine_stands.specs.Changes.{ChangesBy};
 
 use crate::calls::take_arguments;
 use crate::values::slot_at;
@@ -36,9 +35,8 @@ pub fn call_built_in<S: StateStore>(
     operands: u32,
     count: u32,
 ) -> Result<(), AllocError>
-    ensures { IfOk result (λ _. (name : ℕ) → step.node ≡ Node.BuiltIn predicate name operands count → (l : Loaded) →
-        l.code ≡ code.now → RunsGoalIn mode (world l (S.seen run.old.store) S.order (view_of run.old.arenas))
-        (world l (S.seen run.new.store) S.order (view_of run.new.arenas)) point step run.new.now) }
+    ensures { IfOk result (λ _. (name : ℕ) → step.node ≡ Node.BuiltIn predicate name operands count →
+        ChangesBy S.seen S.order code.now run.old run.new (RunsGoalIn mode point step)) }
 {
     take_arguments(code, run, point.first_slot(step), operands, count)?;
     let outcome = call_predicate(run.alloc, &mut run.store, predicate, &run.terms);
@@ -100,9 +98,8 @@ pub fn apply_built_in<S: StateStore>(
     count: u32,
     into: u32,
 ) -> Result<(), AllocError>
-    ensures { IfOk result (λ _. (name : ℕ) → step.node ≡ Node.BuiltInValue function name operands count into → (l : Loaded) →
-        l.code ≡ code.now → RunsGoal (world l (S.seen run.old.store) S.order (view_of run.old.arenas))
-        (world l (S.seen run.new.store) S.order (view_of run.new.arenas)) point step run.new.now) }
+    ensures { IfOk result (λ _. (name : ℕ) → step.node ≡ Node.BuiltInValue function name operands count into →
+        ChangesBy S.seen S.order code.now run.old run.new (RunsGoal point step)) }
 {
     let first = point.first_slot(step);
     take_arguments(code, run, first, operands, count)?;

@@ -1,27 +1,27 @@
 //! Unification, and calls of predicates and functions.
 ghost use Rattle.std.specs.Prelude.{◌≡◌, ℕ, Some, IfOk, slice_get};
 ghost use Rattle.pi_engine_code.specs.declared.code.Node.TheVariants.{Unify};
-ghost use Rattle.pi_engine_arenas.specs.Arenas.{view_of};
 ghost use Rattle.pi_terms.specs.Tree.{trees_of};
 ghost use Rattle.pi_terms.specs.Places.{Places};
 ghost use Rattle.pi_constraints.specs.Store.{Terms};
 ghost use Rattle.pi_constraints.specs.Evaluation.{evaluated_all};
 ghost use Rattle.pi_engine_code.specs.Code.{tables_of};
-ghost use Rattle.pi_engine_stands.specs.Here.{Block, Holds, AreReadable};
+ghost use Rattle.pi_engine_stands.specs.Here.{Block, AreReadable};
 ghost use Rattle.pi_engine_arenas.specs.Frames.{slot_number};
 ghost use Rattle.pi_engine_stands.specs.Evaluates.{operand_trees, EvaluatesAll};
-ghost use Rattle.pi_engine_stands.specs.Stands.{Loaded, world};
 ghost use Rattle.pi_constraints.specs.Store.{Extend};
 ghost use Rattle.pi_engine_arenas.specs.declared.arenas.Kind.{Kind};
 ghost use Rattle.pi_engine_stands.specs.Makes.{RunsGoal, apply_at};
 ghost use Rattle.pi_engine_stands.specs.Gives.{GivesValue, without_call};
+ghost use Rattle.pi_engine_stands.specs.Changes.{ChangesBy, HoldsIn};
+ghost use Rattle.pi_engine_arenas.specs.Runs.{across, state_in, terms_in};
 
 use crate::choices::push_entry;
 use crate::facts::try_clauses;
-use crate::rules::{Call, try_rules};
+use crate::rules::try_rules;
 use crate::values::{slot_at, value};
 use pi_constraints::StateStore;
-use pi_engine_arenas::{Back, BlocksMark, Kind, Now, Point, Run, Strict, behind};
+use pi_engine_arenas::{Back, BlocksMark, Call, Kind, Now, Point, Run, Strict, behind};
 use pi_engine_code::{Code, Node, Operand, Predicate, Step};
 use pi_unify::unify;
 use std::alloc::AllocError;
@@ -36,9 +36,7 @@ pub fn make_equal<S: StateStore>(
     left: Operand,
     right: Operand,
 ) -> Result<(), AllocError>
-    ensures { IfOk result (λ _. step.node ≡ Unify left right → (l : Loaded) → l.code ≡ code.now →
-        RunsGoal (world l (S.seen run.old.store) S.order (view_of run.old.arenas))
-        (world l (S.seen run.new.store) S.order (view_of run.new.arenas)) point step run.new.now) }
+    ensures { IfOk result (λ _. step.node ≡ Unify left right → ChangesBy S.seen S.order code.now run.old run.new (RunsGoal point step)) }
 {
     let first = point.first_slot(step);
     let a = value(code, run, left, first)?;
@@ -67,10 +65,9 @@ pub fn call<S: StateStore>(
     predicate: u32,
     operands: u32,
 ) -> Result<(), AllocError>
-    ensures { IfOk result (λ _. step.node ≡ Node.Call predicate operands → (l : Loaded) → l.code ≡ code.now →
-        slice_get code.now.predicates.items predicate ≡ Some called.now →
-        RunsGoal (world l (S.seen run.old.store) S.order (view_of run.old.arenas))
-        (world l (S.seen run.new.store) S.order (view_of run.new.arenas)) point step run.new.now) }
+    ensures { IfOk result (λ _. step.node ≡ Node.Call predicate operands →
+        ChangesBy S.seen S.order code.now run.old run.new
+        (λ made. slice_get code.now.predicates.items predicate ≡ Some called.now → RunsGoal point step made)) }
 {
     take_arguments(code, run, point.first_slot(step), operands, called.arity)?;
     let frame = run.arenas.frame_behind(point, step)?;
@@ -101,10 +98,9 @@ pub fn apply<S: StateStore>(
     predicate: u32,
     operands: u32,
 ) -> Result<(), AllocError>
-    ensures { IfOk result (λ _. (into : ℕ) → step.node ≡ Node.Apply predicate operands into → (l : Loaded) → l.code ≡ code.now →
-        slice_get code.now.predicates.items predicate ≡ Some called.now →
-        RunsGoal (world l (S.seen run.old.store) S.order (view_of run.old.arenas))
-        (world l (S.seen run.new.store) S.order (view_of run.new.arenas)) point step run.new.now) }
+    ensures { IfOk result (λ _. (into : ℕ) → step.node ≡ Node.Apply predicate operands into →
+        ChangesBy S.seen S.order code.now run.old run.new
+        (λ made. slice_get code.now.predicates.items predicate ≡ Some called.now → RunsGoal point step made)) }
 {
     take_arguments(code, run, point.first_slot(step), operands, called.arity)?;
     let frame = run.arenas.frame_behind(point, step)?;
@@ -131,10 +127,10 @@ pub fn take_arguments<S: StateStore>(
     arity: u32,
 ) -> Result<(), AllocError>
     ensures ok { IfOk result (λ _. (t : Terms) (b : Block) (e : Places) → first ≡ slot_number b.base b.first →
-        AreReadable (tables_of t code.now) b operands arity → Extend t (S.seen run.old.store).now.terms →
-        Holds (S.seen run.old.store).now.terms run.old.arenas.blocks.slots b e →
-        EvaluatesAll b (S.seen run.old.store) (S.seen run.new.store) (view_of run.old.arenas) (view_of run.new.arenas)
-        (evaluated_all (trees_of (operand_trees (tables_of t code.now) operands arity)) e (S.seen run.old.store).now.state)
+        AreReadable (tables_of t code.now) b operands arity → Extend t (terms_in S.seen run.old) →
+        HoldsIn S.seen run.old b e →
+        EvaluatesAll b (across S.seen run.old run.new)
+        (evaluated_all (trees_of (operand_trees (tables_of t code.now) operands arity)) e (state_in S.seen run.old))
         run.new.terms.items) }
 {
     run.terms.clear();
@@ -157,9 +153,8 @@ pub fn give_value<S: StateStore>(
     step: Step,
     operand: Operand,
 ) -> Result<(), AllocError>
-    ensures { IfOk result (λ _. step.node ≡ Node.Value operand → (l : Loaded) → l.code ≡ code.now →
-        GivesValue (world l (S.seen run.old.store) S.order (view_of run.old.arenas))
-        (world l (S.seen run.new.store) S.order (view_of run.new.arenas)) point step run.new.now) }
+    ensures { IfOk result (λ _. step.node ≡ Node.Value operand →
+        ChangesBy S.seen S.order code.now run.old run.new (GivesValue point step)) }
 {
     let term = value(code, run, operand, point.first_slot(step))?;
     run.now = Now::Failing;

@@ -2,12 +2,13 @@
 ghost use Rattle.std.specs.Prelude.{◌≡◌, Some, IfOk, length};
 ghost use Rattle.pi_engine_code.specs.declared.code.Node.TheVariants.{Seq, Alt};
 ghost use Rattle.pi_engine_arenas.specs.declared.run.Now.TheVariants.{Going};
-ghost use Rattle.pi_engine_arenas.specs.Arenas.{view_of, newest, PushesEntry, ReturnsToNewest};
+ghost use Rattle.pi_engine_arenas.specs.Arenas.{newest, PushesEntry, ReturnsToNewest, keeping};
 ghost use Rattle.pi_engine_arenas.specs.declared.arenas.Entry.{Entry};
-ghost use Rattle.pi_engine_stands.specs.Stands.{Loaded, world};
 ghost use Rattle.pi_engine_arenas.specs.declared.arenas.Kind.TheVariants.{Branches};
 ghost use Rattle.pi_engine_stands.specs.Makes.{RunsGoal};
 ghost use Rattle.pi_engine_stands.specs.Fails.{GoesOnWithBranch};
+ghost use Rattle.pi_engine_stands.specs.Changes.{Changes, ChangesBy};
+ghost use Rattle.pi_engine_arenas.specs.Runs.{across};
 
 use pi_constraints::StateStore;
 use pi_engine_arenas::{Back, Kind, Now, Point, Run};
@@ -22,9 +23,7 @@ pub fn enter_sequence<S: StateStore>(
     step: Step,
     count: u32,
 ) -> Result<(), AllocError>
-    ensures { IfOk result (λ _. step.node ≡ Seq count → (l : Loaded) →
-        RunsGoal (world l (S.seen run.old.store) S.order (view_of run.old.arenas))
-        (world l (S.seen run.new.store) S.order (view_of run.new.arenas)) point step run.new.now) }
+    ensures { IfOk result (λ _. step.node ≡ Seq count → Changes S.seen S.order run.old run.new (RunsGoal point step)) }
 {
     let frame = run.arenas.frame_behind(point, step)?;
     run.now = Now::Going(Point {
@@ -45,9 +44,7 @@ pub fn enter_alternatives<S: StateStore>(
     step: Step,
     count: u32,
 ) -> Result<(), AllocError>
-    ensures { IfOk result (λ _. step.node ≡ Alt count → (l : Loaded) → l.code ≡ code.now →
-        RunsGoal (world l (S.seen run.old.store) S.order (view_of run.old.arenas))
-        (world l (S.seen run.new.store) S.order (view_of run.new.arenas)) point step run.new.now) }
+    ensures { IfOk result (λ _. step.node ≡ Alt count → ChangesBy S.seen S.order code.now run.old run.new (RunsGoal point step)) }
 {
     if count == 0 {
         run.now = Now::Failing;
@@ -72,9 +69,8 @@ pub fn next_branch<S: StateStore>(
     place: u32,
     count: u32,
 )
-    ensures { (l : Loaded) → l.code ≡ code.now → back.kind ≡ Branches place count →
-        GoesOnWithBranch (world l (S.seen run.old.store) S.order (view_of run.old.arenas))
-        (world l (S.seen run.new.store) S.order (view_of run.new.arenas)) back run.new.now }
+    ensures { ChangesBy S.seen S.order code.now run.old run.new (λ made. back.kind ≡ Branches place count →
+        GoesOnWithBranch back made) }
 {
     if count > 1 {
         let kind = Kind::Branches(code.behind(place), count.saturating_sub(1));
@@ -104,8 +100,8 @@ pub fn push_entry<S: StateStore>(
     frame: usize,
     kind: Kind,
 ) -> Result<(), AllocError>
-    ensures { IfOk result (λ _. PushesEntry S.order (S.seen run.old.store) (S.seen run.new.store) (view_of run.old.arenas)
-        (view_of run.new.arenas) (length run.old.arenas.blocks.slots) base frame kind) }
+    ensures { IfOk result (λ _. PushesEntry S.order (across S.seen run.old run.new)
+        (keeping (length run.old.arenas.blocks.slots) base frame kind)) }
 {
     let slots = run.arenas.blocks.count();
     push_entry_at(run, slots, base, frame, kind)
@@ -120,8 +116,7 @@ pub fn push_entry_at<S: StateStore>(
     frame: usize,
     kind: Kind,
 ) -> Result<(), AllocError>
-    ensures { IfOk result (λ _. PushesEntry S.order (S.seen run.old.store) (S.seen run.new.store) (view_of run.old.arenas)
-        (view_of run.new.arenas) slots base frame kind) }
+    ensures { IfOk result (λ _. PushesEntry S.order (across S.seen run.old run.new) (keeping slots base frame kind)) }
 {
     let mark = run.store.mark()?;
     run.arenas.push(mark, slots, base, frame, kind)
@@ -131,8 +126,7 @@ pub fn push_entry_at<S: StateStore>(
 #[inline(always)]
 pub fn come_back<S: StateStore>(run: &mut Run<S>)
     ensures some { (x : Entry S.Mark) → newest run.old.arenas.entries.items ≡ Some x →
-        ReturnsToNewest S.order (S.seen run.old.store) (S.seen run.new.store) (view_of run.old.arenas)
-        (view_of run.new.arenas) x.back }
+        ReturnsToNewest S.order (across S.seen run.old run.new) x.back }
     ensures entries { run.new.arenas.entries.items ≡ run.old.arenas.entries.items }
     ensures now { run.new.now ≡ run.old.now }
 {

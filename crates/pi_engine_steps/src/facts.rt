@@ -13,17 +13,17 @@ ghost use Rattle.pi_engine_code.specs.Code.{preds_of};
 ghost use Rattle.pi_engine_arenas.specs.declared.arenas.Kind.TheVariants.{Facts};
 ghost use Rattle.pi_engine_arenas.specs.declared.run.Now.TheVariants.{Going, Failing};
 ghost use Rattle.pi_engine_arenas.specs.Arenas.{view_of, DropsNewest};
-ghost use Rattle.pi_engine_stands.specs.Here.{HoldsArguments};
-ghost use Rattle.pi_engine_stands.specs.Stands.{Loaded, world};
 ghost use Rattle.pi_engine_stands.specs.Tries.{LeavesLater, TriesClauses, TriesFacts};
 ghost use Rattle.pi_engine_stands.specs.Fails.{PassesOver};
-ghost use Rattle.pi_engine_steps.specs.Facts.{TakesFact, TriesSome};
+ghost use Rattle.pi_engine_steps.specs.Facts.{TakesFact, TriesSome, asking};
+ghost use Rattle.pi_engine_stands.specs.Changes.{ChangesBy, HoldsArgumentsIn};
+ghost use Rattle.pi_engine_arenas.specs.Runs.{across, state_in};
 
 use crate::raises::take_block;
-use crate::rules::{Call, call_of, keep, try_rules};
+use crate::rules::{call_of, keep, try_rules};
 use pi_constraints::{Ref, StateStore};
 use pi_core::CoreClause;
-use pi_engine_arenas::{Back, Kind, Now, Point, Run};
+use pi_engine_arenas::{Back, Call, Kind, Now, Point, Run};
 use pi_engine_code::{Code, Predicate};
 use pi_engine_facts::{fits_call, next_unifying, unify_fact};
 use std::alloc::AllocError;
@@ -36,11 +36,9 @@ pub fn try_clauses<S: StateStore>(
     call: &Call,
     predicate: &Predicate,
 ) -> Result<(), AllocError>
-    ensures { IfOk result (λ _. (l : Loaded) → l.code ≡ code.now →
-        slice_get code.now.predicates.items call.now.predicate ≡ Some predicate.now →
-        TriesClauses (world l (S.seen run.old.store) S.order (view_of run.old.arenas))
-        (world l (S.seen run.new.store) S.order (view_of run.new.arenas)) call.now.predicate call.now.base call.now.frame
-        predicate.now.first run.new.now) }
+    ensures { IfOk result (λ _. ChangesBy S.seen S.order code.now run.old run.new
+        (λ made. slice_get code.now.predicates.items call.now.predicate ≡ Some predicate.now →
+        TriesClauses call.now predicate.now.first made)) }
 {
     if predicate.is_facts {
         call_facts(code, run, call, predicate)
@@ -57,11 +55,9 @@ fn call_facts<S: StateStore>(
     call: &Call,
     predicate: &Predicate,
 ) -> Result<(), AllocError>
-    ensures { IfOk result (λ _. (l : Loaded) → l.code ≡ code.now →
-        slice_get code.now.predicates.items call.now.predicate ≡ Some predicate.now → predicate.now.is_facts ≡ true →
-        TriesClauses (world l (S.seen run.old.store) S.order (view_of run.old.arenas))
-        (world l (S.seen run.new.store) S.order (view_of run.new.arenas)) call.now.predicate call.now.base call.now.frame
-        predicate.now.first run.new.now) }
+    ensures { IfOk result (λ _. ChangesBy S.seen S.order code.now run.old run.new
+        (λ made. slice_get code.now.predicates.items call.now.predicate ≡ Some predicate.now → predicate.now.is_facts ≡ true →
+        TriesClauses call.now predicate.now.first made)) }
 {
     if fits(code, run, call, predicate.arity)? {
         try_facts(code, run, call, predicate, predicate.first, false)
@@ -82,9 +78,9 @@ fn fits<S: StateStore>(
     ensures arenas { run.new.arenas ≡ run.old.arenas }
     ensures tells { IfOk result (λ one. (pred : PredTree) (lists : List (List Mode)) (ts : Trees) →
         slice_get (map pred_tree (preds_of code.now)) call.now.predicate ≡ Some pred → pred.index ≡ Some lists →
-        IsAcyclic (bindings (S.seen run.old.store).now.state) →
-        HoldsArguments (S.seen run.old.store).now.terms run.old.arenas.blocks.slots call.now.base arity ts →
-        one ≡ list_any (λ modes. fits_modes (bindings (S.seen run.old.store).now.state) modes ts) lists) }
+        IsAcyclic (bindings (state_in S.seen run.old)) →
+        HoldsArgumentsIn S.seen run.old call.now.base arity ts →
+        one ≡ list_any (λ modes. fits_modes (bindings (state_in S.seen run.old)) modes ts) lists) }
 {
     let Some(source) = code.source(call.predicate) else {
         return Ok(false);
@@ -103,11 +99,9 @@ pub fn try_facts<S: StateStore>(
     from: u32,
     is_again: bool,
 ) -> Result<(), AllocError>
-    ensures { IfOk result (λ _. (l : Loaded) → l.code ≡ code.now →
-        slice_get code.now.predicates.items call.now.predicate ≡ Some predicate.now →
-        TriesFacts (world l (S.seen run.old.store) S.order (view_of run.old.arenas))
-        (world l (S.seen run.new.store) S.order (view_of run.new.arenas)) call.now.predicate call.now.base call.now.frame from
-        is_again run.new.now) }
+    ensures { IfOk result (λ _. ChangesBy S.seen S.order code.now run.old run.new
+        (λ made. slice_get code.now.predicates.items call.now.predicate ≡ Some predicate.now →
+        TriesFacts call.now from is_again made)) }
 {
     let Some(source) = code.source(call.predicate) else {
         run.now = Now::Failing;
@@ -123,7 +117,7 @@ fn asked_of<S: StateStore>(run: &mut Run<S>, call: &Call, arity: u32) -> Result<
     ensures stays { Stays (S.seen run.old.store) (S.seen run.new.store) }
     ensures arenas { run.new.arenas ≡ run.old.arenas }
     ensures term { IfOk result (λ r. (ts : Trees) →
-        HoldsArguments (S.seen run.old.store).now.terms run.old.arenas.blocks.slots call.now.base arity ts →
+        HoldsArgumentsIn S.seen run.old call.now.base arity ts →
         IsTerm (S.seen run.new.store) r (comp [] ts)) }
 {
     take_block(&run.arenas.blocks, call.base, arity, &mut run.terms)?;
@@ -141,10 +135,8 @@ fn try_some<S: StateStore>(
     asked: Ref,
     is_again: bool,
 ) -> Result<(), AllocError>
-    ensures { IfOk result (λ _. (l : Loaded) → l.code ≡ code.now →
-        TriesSome (world l (S.seen run.old.store) S.order (view_of run.old.arenas))
-        (world l (S.seen run.new.store) S.order (view_of run.new.arenas)) call.now.predicate call.now.base call.now.frame from
-        predicate.now clauses.now asked is_again run.new.now) }
+    ensures { IfOk result (λ _. ChangesBy S.seen S.order code.now run.old run.new
+        (TriesSome call.now from (asking predicate.now clauses.now asked) is_again)) }
 {
     let end = predicate.end;
     let facts = pi_engine_facts::Facts {
@@ -198,8 +190,7 @@ fn leave_later<S: StateStore>(
     is_again: bool,
 ) -> Result<(), AllocError>
     ensures { IfOk result (λ _. call.now.base + arity ≤ length run.old.arenas.blocks.slots →
-        LeavesLater S.order (S.seen run.old.store) (S.seen run.new.store) (view_of run.old.arenas) (view_of run.new.arenas)
-        (call.now.base + arity) call.now.predicate call.now.base call.now.frame is_again next) }
+        LeavesLater S.order (across S.seen run.old run.new) call.now (call.now.base + arity) is_again next) }
 {
     match next {
         Some(number) => {
@@ -234,8 +225,8 @@ fn take_fact<S: StateStore>(
 ) -> Result<(), AllocError>
     ensures arenas { run.new.arenas ≡ run.old.arenas }
     ensures takes { IfOk result (λ _. (d : Clause) (ts : Trees) → slice_get facts.now place ≡ Some d →
-        IsState (S.seen run.old.store).now.state → IsTerm (S.seen run.old.store) asked (comp [] ts) →
-        TakesFact (S.seen run.old.store) (S.seen run.new.store) ts (clause_tree d) call.now.base call.now.frame run.new.now) }
+        IsState (state_in S.seen run.old) → IsTerm (S.seen run.old.store) asked (comp [] ts) →
+        TakesFact (S.seen run.old.store) (S.seen run.new.store) ts (clause_tree d) call.now run.new.now) }
 {
     let Some(fact) = facts.get(place as usize) else {
         run.now = Now::Failing;
@@ -252,10 +243,9 @@ fn make_fact<S: StateStore>(
     asked: Ref,
 ) -> Result<(), AllocError>
     ensures arenas { run.new.arenas ≡ run.old.arenas }
-    ensures takes { IfOk result (λ _. (ts : Trees) → IsState (S.seen run.old.store).now.state →
+    ensures takes { IfOk result (λ _. (ts : Trees) → IsState (state_in S.seen run.old) →
         IsTerm (S.seen run.old.store) asked (comp [] ts) →
-        TakesFact (S.seen run.old.store) (S.seen run.new.store) ts
-        (clause_tree fact.now) call.now.base call.now.frame run.new.now) }
+        TakesFact (S.seen run.old.store) (S.seen run.new.store) ts (clause_tree fact.now) call.now run.new.now) }
 {
     let head = fact.head.as_slice();
     let one = unify_fact(run.alloc, &mut run.store, head, fact.slots, asked)?;
@@ -288,9 +278,8 @@ pub fn retry_facts<S: StateStore>(
     predicate: u32,
     from: u32,
 ) -> Result<(), AllocError>
-    ensures { IfOk result (λ _. (l : Loaded) → l.code ≡ code.now → back.kind ≡ Facts predicate from →
-        PassesOver (world l (S.seen run.old.store) S.order (view_of run.old.arenas))
-        (world l (S.seen run.new.store) S.order (view_of run.new.arenas)) back run.new.now) }
+    ensures { IfOk result (λ _. ChangesBy S.seen S.order code.now run.old run.new (λ made. back.kind ≡ Facts predicate from →
+        PassesOver back made)) }
 {
     let Some(called) = code.predicate_there(predicate) else {
         run.now = Now::Failing;

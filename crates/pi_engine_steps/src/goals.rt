@@ -2,10 +2,9 @@
 ghost use Rattle.std.specs.Prelude.{◌≡◌, Some, IfOk, IfErr, length};
 ghost use Rattle.pi_engine_code.specs.declared.code.Node.TheVariants.{True};
 ghost use Rattle.pi_meaning.specs.Machine.Budget.{Counts};
-ghost use Rattle.pi_engine_arenas.specs.Arenas.{view_of};
-ghost use Rattle.pi_engine_stands.specs.Stands.{Loaded, world};
 ghost use Rattle.pi_engine_stands.specs.Makes.{RunsGoal, RunsGoalIn, level_kind};
 ghost use Rattle.pi_engine_stands.specs.Goes.{GoalGoes, PointGoes, GoalStops, PointStops, IsSilent, IsOther};
+ghost use Rattle.pi_engine_stands.specs.Changes.{Changes, ChangesBy};
 
 use crate::built_ins::{apply_built_in, call_built_in};
 use crate::calls::{apply, call, give_value, make_equal};
@@ -31,11 +30,8 @@ pub fn run_goal<S: StateStore>(
     budget: &mut Budget,
 ) -> Result<(), AllocError>
     ensures counts { Counts mode budget.old budget.new }
-    ensures goes { IfOk result (λ _. (l : Loaded) → l.code ≡ code.now →
-        PointGoes mode budget.old budget.new (world l (S.seen run.old.store) S.order (view_of run.old.arenas))
-        (world l (S.seen run.new.store) S.order (view_of run.new.arenas)) point run.new.now) }
-    ensures stops { IfErr result (λ _. (l : Loaded) → l.code ≡ code.now →
-        PointStops mode budget.old budget.new (world l (S.seen run.old.store) S.order (view_of run.old.arenas)) point) }
+    ensures goes { IfOk result (λ _. ChangesBy S.seen S.order code.now run.old run.new (PointGoes mode budget.old budget.new point)) }
+    ensures stops { IfErr result (λ _. ChangesBy S.seen S.order code.now run.old run.new (PointStops mode budget.old budget.new point)) }
 {
     let Some(step) = code.step_there(point.place) else {
         run.now = Now::Failing;
@@ -74,11 +70,10 @@ fn run_other<S: StateStore>(
     budget: &mut Budget,
 ) -> Result<(), AllocError>
     ensures counts { Counts mode budget.old budget.new }
-    ensures goes { IfOk result (λ _. IsOther step.now.node → (l : Loaded) → l.code ≡ code.now →
-        GoalGoes mode budget.old budget.new (world l (S.seen run.old.store) S.order (view_of run.old.arenas))
-        (world l (S.seen run.new.store) S.order (view_of run.new.arenas)) point step.now run.new.now) }
-    ensures stops { IfErr result (λ _. (l : Loaded) → l.code ≡ code.now →
-        GoalStops mode budget.old budget.new (world l (S.seen run.old.store) S.order (view_of run.old.arenas)) point step.now) }
+    ensures goes { IfOk result (λ _. IsOther step.now.node →
+        ChangesBy S.seen S.order code.now run.old run.new (GoalGoes mode budget.old budget.new point step.now)) }
+    ensures stops { IfErr result (λ _. ChangesBy S.seen S.order code.now run.old run.new
+        (GoalStops mode budget.old budget.new point step.now)) }
 {
     match step.node {
         Node::Apply(predicate, operands, into) => {
@@ -102,9 +97,7 @@ fn run_tick<S: StateStore>(
     budget: &mut Budget,
 )
     ensures counts { Counts mode budget.old budget.new }
-    ensures goes { step.node ≡ Node.Tick → (l : Loaded) →
-        GoalGoes mode budget.old budget.new (world l (S.seen run.old.store) S.order (view_of run.old.arenas))
-        (world l (S.seen run.new.store) S.order (view_of run.new.arenas)) point step run.new.now }
+    ensures goes { step.node ≡ Node.Tick → Changes S.seen S.order run.old run.new (GoalGoes mode budget.old budget.new point step) }
 {
     if tick(mode, &mut run.now, budget) {
         run.now = Now::Going(behind(point, step));
@@ -124,11 +117,10 @@ fn run_call<S: StateStore>(
     budget: &mut Budget,
 ) -> Result<(), AllocError>
     ensures counts { Counts mode budget.old budget.new }
-    ensures goes { IfOk result (λ _. step.node ≡ Node.Call predicate operands → (l : Loaded) → l.code ≡ code.now →
-        GoalGoes mode budget.old budget.new (world l (S.seen run.old.store) S.order (view_of run.old.arenas))
-        (world l (S.seen run.new.store) S.order (view_of run.new.arenas)) point step run.new.now) }
-    ensures stops { IfErr result (λ _. step.node ≡ Node.Call predicate operands → (l : Loaded) → l.code ≡ code.now →
-        GoalStops mode budget.old budget.new (world l (S.seen run.old.store) S.order (view_of run.old.arenas)) point step) }
+    ensures goes { IfOk result (λ _. step.node ≡ Node.Call predicate operands →
+        ChangesBy S.seen S.order code.now run.old run.new (GoalGoes mode budget.old budget.new point step)) }
+    ensures stops { IfErr result (λ _. step.node ≡ Node.Call predicate operands →
+        ChangesBy S.seen S.order code.now run.old run.new (GoalStops mode budget.old budget.new point step)) }
 {
     let Some(called) = code.predicate_there(predicate) else {
         run.now = Now::Failing;
@@ -154,11 +146,10 @@ fn run_apply<S: StateStore>(
     budget: &mut Budget,
 ) -> Result<(), AllocError>
     ensures counts { Counts mode budget.old budget.new }
-    ensures goes { IfOk result (λ _. step.node ≡ Node.Apply predicate operands into → (l : Loaded) → l.code ≡ code.now →
-        GoalGoes mode budget.old budget.new (world l (S.seen run.old.store) S.order (view_of run.old.arenas))
-        (world l (S.seen run.new.store) S.order (view_of run.new.arenas)) point step run.new.now) }
-    ensures stops { IfErr result (λ _. step.node ≡ Node.Apply predicate operands into → (l : Loaded) → l.code ≡ code.now →
-        GoalStops mode budget.old budget.new (world l (S.seen run.old.store) S.order (view_of run.old.arenas)) point step) }
+    ensures goes { IfOk result (λ _. step.node ≡ Node.Apply predicate operands into →
+        ChangesBy S.seen S.order code.now run.old run.new (GoalGoes mode budget.old budget.new point step)) }
+    ensures stops { IfErr result (λ _. step.node ≡ Node.Apply predicate operands into →
+        ChangesBy S.seen S.order code.now run.old run.new (GoalStops mode budget.old budget.new point step)) }
 {
     let Some(called) = code.predicate_there(predicate) else {
         run.now = Now::Failing;
@@ -173,8 +164,7 @@ fn run_apply<S: StateStore>(
 /// Passes a goal that is `true`.
 #[inline(always)]
 fn pass<S: StateStore>(run: &mut Run<S>, point: Point, step: Step)
-    ensures { step.node ≡ True → (l : Loaded) → RunsGoal (world l (S.seen run.old.store) S.order (view_of run.old.arenas))
-        (world l (S.seen run.new.store) S.order (view_of run.new.arenas)) point step run.new.now }
+    ensures { step.node ≡ True → Changes S.seen S.order run.old run.new (RunsGoal point step) }
 {
     run.now = Now::Going(behind(point, step));
 }
@@ -182,9 +172,7 @@ fn pass<S: StateStore>(run: &mut Run<S>, point: Point, step: Step)
 /// Fails.
 #[inline(always)]
 fn fail_here<S: StateStore>(run: &mut Run<S>, point: Point, step: Step)
-    ensures { step.node ≡ Node.Fail → (l : Loaded) →
-        RunsGoal (world l (S.seen run.old.store) S.order (view_of run.old.arenas))
-        (world l (S.seen run.new.store) S.order (view_of run.new.arenas)) point step run.new.now }
+    ensures { step.node ≡ Node.Fail → Changes S.seen S.order run.old run.new (RunsGoal point step) }
 {
     run.now = Now::Failing;
 }
@@ -198,9 +186,8 @@ fn run_silent<S: StateStore>(
     point: Point,
     step: Step,
 ) -> Result<(), AllocError>
-    ensures { IfOk result (λ _. (l : Loaded) → l.code ≡ code.now → IsOther step.node → IsSilent step.node →
-        RunsGoalIn mode (world l (S.seen run.old.store) S.order (view_of run.old.arenas))
-        (world l (S.seen run.new.store) S.order (view_of run.new.arenas)) point step run.new.now) }
+    ensures { IfOk result (λ _. ChangesBy S.seen S.order code.now run.old run.new (λ made. IsOther step.node → IsSilent step.node →
+        RunsGoalIn mode point step made)) }
 {
     match step.node {
         Node::Alt(count) => enter_alternatives(code, run, point, step, count),
@@ -234,9 +221,7 @@ fn enter_strict<S: StateStore>(
     strict: Strict,
 ) -> Result<(), AllocError>
     ensures { IfOk result (λ _. level_kind point.place (length run.old.arenas.collected.items) step.node ≡
-        Some (Kind.Strict strict) → (l : Loaded) → l.code ≡ code.now →
-        RunsGoal (world l (S.seen run.old.store) S.order (view_of run.old.arenas))
-        (world l (S.seen run.new.store) S.order (view_of run.new.arenas)) point step run.new.now) }
+        Some (Kind.Strict strict) → ChangesBy S.seen S.order code.now run.old run.new (RunsGoal point step)) }
 {
     enter_level(code, run, point, step, Kind::Strict(strict))
 }

@@ -10,18 +10,18 @@ ghost use Rattle.pi_constraints.specs.State.{IsState, bindings};
 ghost use Rattle.pi_constraints.specs.Store.{IsTerm};
 ghost use Rattle.pi_unify.specs.Matching.{is_int_in};
 ghost use Rattle.pi_engine_code.specs.declared.code.HeadTest.TheVariants.{Deep};
-ghost use Rattle.pi_engine_arenas.specs.Arenas.{view_of};
 ghost use Rattle.pi_engine_stands.specs.Here.{Block, HoldsArguments};
 ghost use Rattle.pi_engine_arenas.specs.Frames.{slot_number};
-ghost use Rattle.pi_engine_stands.specs.Stands.{Loaded, world, AreTestsOf, NoneIsDeep};
+ghost use Rattle.pi_engine_stands.specs.Stands.{AreTestsOf, NoneIsDeep};
 ghost use Rattle.pi_engine_code.specs.LaidRules.{IsTestOf};
 ghost use Rattle.pi_engine_stands.specs.Tries.{RuleSlots, FillsHead, FillsSlots, MatchesHead, is_atom_cell};
+ghost use Rattle.pi_engine_stands.specs.Changes.{ChangesBy};
 
-use crate::rules::{Call, first_slot};
+use crate::rules::first_slot;
 use crate::values::slot_at;
 use pi_constraints::{Cell, Ref, StateStore};
 use pi_core::Pattern;
-use pi_engine_arenas::{Blocks, Run};
+use pi_engine_arenas::{Blocks, Call, Run};
 use pi_engine_code::{Code, HeadTest, Rule};
 use pi_unify::{Slots, compare, match_head};
 use std::alloc::{AllocError, Global};
@@ -35,10 +35,7 @@ pub fn matches<S: StateStore>(
     number: u32,
     arity: u32,
 ) -> Result<bool, AllocError>
-    ensures { IfOk result (λ found. (l : Loaded) → l.code ≡ code.now →
-        MatchesHead (world l (S.seen run.old.store) S.order (view_of run.old.arenas))
-        (world l (S.seen run.new.store) S.order (view_of run.new.arenas)) call.now.predicate call.now.base call.now.frame number
-        arity rule.now found) }
+    ensures { IfOk result (λ found. ChangesBy S.seen S.order code.now run.old run.new (MatchesHead call.now number arity rule.now found)) }
 {
     let first = first_slot(&run.arenas.blocks, call, arity);
     run.arenas.blocks.truncate(first);

@@ -2,10 +2,10 @@
 ghost use Rattle.std.specs.Prelude.{◌≡◌, ◌≢◌, ℕ, Some, IfOk, length, slice_get};
 ghost use Rattle.pi_engine_code.specs.declared.code.Predicate.{Predicate};
 ghost use Rattle.pi_engine_arenas.specs.Arenas.{view_of, IsLevel};
-ghost use Rattle.pi_engine_stands.specs.Stands.{Loaded, world};
 ghost use Rattle.pi_engine_stands.specs.Makes.{RunsGoal, AnswersLevel, AnswersOpen, IsPassed, level_kind, once_at, not_at, if_at, count_at, guard_at, EntersCatch};
 ghost use Rattle.pi_engine_arenas.specs.declared.arenas.Back.{Back};
 ghost use Rattle.pi_engine_stands.specs.Fails.{Fails, PassesOver, EndsLevel};
+ghost use Rattle.pi_engine_stands.specs.Changes.{Changes, ChangesBy};
 
 use crate::choices::{come_back, next_branch, one_goal, push_entry};
 use crate::facts::retry_facts;
@@ -28,11 +28,9 @@ pub fn enter_level<S: StateStore>(
     kind: Kind,
 ) -> Result<(), AllocError>
     ensures levels { IfOk result (λ _. level_kind point.place (length run.old.arenas.collected.items) step.node ≡ Some kind →
-        (l : Loaded) → l.code ≡ code.now → RunsGoal (world l (S.seen run.old.store) S.order (view_of run.old.arenas))
-        (world l (S.seen run.new.store) S.order (view_of run.new.arenas)) point step run.new.now) }
-    ensures catches { IfOk result (λ _. kind ≡ Kind.Catch point.place → (l : Loaded) → l.code ≡ code.now →
-        EntersCatch (world l (S.seen run.old.store) S.order (view_of run.old.arenas))
-        (world l (S.seen run.new.store) S.order (view_of run.new.arenas)) point step run.new.now) }
+        ChangesBy S.seen S.order code.now run.old run.new (RunsGoal point step)) }
+    ensures catches { IfOk result (λ _. kind ≡ Kind.Catch point.place →
+        ChangesBy S.seen S.order code.now run.old run.new (EntersCatch point step)) }
 {
     let frame = run.arenas.frame_behind(point, step)?;
     push_entry(run, point.base, frame, kind)?;
@@ -44,9 +42,7 @@ pub fn enter_level<S: StateStore>(
 /// The newest open level, which there is, has an answer.
 #[inline(never)]
 pub fn answer_level<S: StateStore>(code: &Code<'_>, run: &mut Run<S>) -> Result<(), AllocError>
-    ensures { IfOk result (λ _. (l : Loaded) → l.code ≡ code.now →
-        AnswersOpen (world l (S.seen run.old.store) S.order (view_of run.old.arenas))
-        (world l (S.seen run.new.store) S.order (view_of run.new.arenas)) run.new.now) }
+    ensures { IfOk result (λ _. ChangesBy S.seen S.order code.now run.old run.new AnswersOpen) }
 {
     let level = run.arenas.level;
     let Some(entry) = run.arenas.entry(level) else {
@@ -84,9 +80,8 @@ fn answer_strict<S: StateStore>(
     back: Back,
     strict: Strict,
 ) -> Result<(), AllocError>
-    ensures { IfOk result (λ _. (l : Loaded) → l.code ≡ code.now → IsLevel (view_of run.old.arenas) level back →
-        back.kind ≡ Kind.Strict strict → AnswersOpen (world l (S.seen run.old.store) S.order (view_of run.old.arenas))
-        (world l (S.seen run.new.store) S.order (view_of run.new.arenas)) run.new.now) }
+    ensures { IfOk result (λ _. ChangesBy S.seen S.order code.now run.old run.new (λ made. IsLevel (view_of run.old.arenas) level back →
+        back.kind ≡ Kind.Strict strict → AnswersOpen made)) }
 {
     match strict {
         Strict::Once(_) => {
@@ -113,18 +108,16 @@ fn answer_strict<S: StateStore>(
 
 /// Leaves a `once` by the first answer of its goal.
 fn leave_once<S: StateStore>(run: &mut Run<S>, level: usize, back: Back)
-    ensures { (l : Loaded) (place : ℕ) → IsLevel (view_of run.old.arenas) level back → back.kind ≡ once_at place →
-        AnswersLevel (world l (S.seen run.old.store) S.order (view_of run.old.arenas))
-        (world l (S.seen run.new.store) S.order (view_of run.new.arenas)) run.new.now }
+    ensures { Changes S.seen S.order run.old run.new (λ made. (place : ℕ) → IsLevel (view_of run.old.arenas) level back →
+        back.kind ≡ once_at place → AnswersLevel made) }
 {
     run.now = Now::Going(run.arenas.leave(level, back));
 }
 
 /// Leaves a `not` by an answer of its goal: it has none itself.
 fn leave_not<S: StateStore>(run: &mut Run<S>, level: usize, back: Back)
-    ensures { (l : Loaded) (place : ℕ) → IsLevel (view_of run.old.arenas) level back → back.kind ≡ not_at place →
-        AnswersLevel (world l (S.seen run.old.store) S.order (view_of run.old.arenas))
-        (world l (S.seen run.new.store) S.order (view_of run.new.arenas)) run.new.now }
+    ensures { Changes S.seen S.order run.old run.new (λ made. (place : ℕ) → IsLevel (view_of run.old.arenas) level back →
+        back.kind ≡ not_at place → AnswersLevel made) }
 {
     run.arenas.leave(level, back);
     run.now = Now::Failing;
@@ -132,9 +125,8 @@ fn leave_not<S: StateStore>(run: &mut Run<S>, level: usize, back: Back)
 
 /// Leaves the condition of an `if` by its first answer: the goal for that case is next.
 fn leave_if<S: StateStore>(code: &Code<'_>, run: &mut Run<S>, level: usize, back: Back, place: u32)
-    ensures { (l : Loaded) → l.code ≡ code.now → IsLevel (view_of run.old.arenas) level back → back.kind ≡ if_at place →
-        AnswersLevel (world l (S.seen run.old.store) S.order (view_of run.old.arenas))
-        (world l (S.seen run.new.store) S.order (view_of run.new.arenas)) run.new.now }
+    ensures { ChangesBy S.seen S.order code.now run.old run.new (λ made. IsLevel (view_of run.old.arenas) level back →
+        back.kind ≡ if_at place → AnswersLevel made) }
 {
     let next = run.arenas.leave(level, back);
     run.now = one_goal(code.child(place, 1), next.base, next.frame);
@@ -147,9 +139,8 @@ fn count_answer<S: StateStore>(
     place: u32,
     count: u64,
 ) -> Result<(), AllocError>
-    ensures { IfOk result (λ _. (l : Loaded) (back : Back) → IsLevel (view_of run.old.arenas) level back →
-        back.kind ≡ count_at place count → AnswersLevel (world l (S.seen run.old.store) S.order (view_of run.old.arenas))
-        (world l (S.seen run.new.store) S.order (view_of run.new.arenas)) run.new.now) }
+    ensures { IfOk result (λ _. Changes S.seen S.order run.old run.new (λ made. (back : Back) →
+        IsLevel (view_of run.old.arenas) level back → back.kind ≡ count_at place count → AnswersLevel made)) }
 {
     let Some(more) = count.checked_add(1) else {
         return Err(AllocError);
@@ -162,9 +153,8 @@ fn count_answer<S: StateStore>(
 
 /// Leaves a `catch` by an answer. Where its goal has choices left, the level stays with them, below an exit.
 fn leave_catch<S: StateStore>(run: &mut Run<S>, level: usize, back: Back) -> Result<(), AllocError>
-    ensures { IfOk result (λ _. (l : Loaded) (place : ℕ) → IsLevel (view_of run.old.arenas) level back →
-        back.kind ≡ Kind.Catch place → AnswersLevel (world l (S.seen run.old.store) S.order (view_of run.old.arenas))
-        (world l (S.seen run.new.store) S.order (view_of run.new.arenas)) run.new.now) }
+    ensures { IfOk result (λ _. Changes S.seen S.order run.old run.new (λ made. (place : ℕ) → IsLevel (view_of run.old.arenas) level back →
+        back.kind ≡ Kind.Catch place → AnswersLevel made)) }
 {
     if run.arenas.count() == level {
         run.now = Now::Going(run.arenas.leave(level, back));
@@ -178,9 +168,7 @@ fn leave_catch<S: StateStore>(run: &mut Run<S>, level: usize, back: Back) -> Res
 
 /// Goes on with the newest entry where a goal has no further answer; without one the run is done.
 pub fn fail<S: StateStore>(code: &Code<'_>, run: &mut Run<S>) -> Result<(), AllocError>
-    ensures { IfOk result (λ _. (l : Loaded) → l.code ≡ code.now →
-        Fails (world l (S.seen run.old.store) S.order (view_of run.old.arenas))
-        (world l (S.seen run.new.store) S.order (view_of run.new.arenas)) run.new.now) }
+    ensures { IfOk result (λ _. ChangesBy S.seen S.order code.now run.old run.new Fails) }
 {
     come_back(run);
     let Some(entry) = run.arenas.newest() else {
@@ -207,9 +195,8 @@ fn go_on_with<S: StateStore>(
     run: &mut Run<S>,
     back: Back,
 ) -> Result<(), AllocError>
-    ensures { IfOk result (λ _. (l : Loaded) → l.code ≡ code.now → ((predicate next : ℕ) → back.kind ≢ Kind.Rules predicate next) →
-        PassesOver (world l (S.seen run.old.store) S.order (view_of run.old.arenas))
-        (world l (S.seen run.new.store) S.order (view_of run.new.arenas)) back run.new.now) }
+    ensures { IfOk result (λ _. ChangesBy S.seen S.order code.now run.old run.new
+        (λ made. ((predicate next : ℕ) → back.kind ≢ Kind.Rules predicate next) → PassesOver back made)) }
 {
     match back.kind {
         Kind::Rules(_, _) => {
@@ -236,9 +223,8 @@ fn go_on_with<S: StateStore>(
 /// Passes the newest entry over, which has no further answer either.
 #[inline(never)]
 fn pass_over<S: StateStore>(run: &mut Run<S>, back: Back)
-    ensures { (l : Loaded) → IsPassed back.kind →
-        PassesOver (world l (S.seen run.old.store) S.order (view_of run.old.arenas))
-        (world l (S.seen run.new.store) S.order (view_of run.new.arenas)) back run.new.now }
+    ensures { Changes S.seen S.order run.old run.new (λ made. IsPassed back.kind →
+        PassesOver back made) }
 {
     run.arenas.pop();
     run.now = Now::Failing;
@@ -252,9 +238,8 @@ fn end_strict<S: StateStore>(
     back: Back,
     strict: Strict,
 ) -> Result<(), AllocError>
-    ensures { IfOk result (λ _. (l : Loaded) → l.code ≡ code.now → back.kind ≡ Kind.Strict strict →
-        EndsLevel (world l (S.seen run.old.store) S.order (view_of run.old.arenas))
-        (world l (S.seen run.new.store) S.order (view_of run.new.arenas)) back run.new.now) }
+    ensures { IfOk result (λ _. ChangesBy S.seen S.order code.now run.old run.new (λ made. back.kind ≡ Kind.Strict strict →
+        EndsLevel back made)) }
 {
     match strict {
         Strict::Once(_) => {
@@ -284,9 +269,8 @@ fn end_guard<S: StateStore>(
     predicate: u32,
     rule: u32,
 ) -> Result<(), AllocError>
-    ensures { IfOk result (λ _. (l : Loaded) → l.code ≡ code.now → back.kind ≡ guard_at predicate rule →
-        EndsLevel (world l (S.seen run.old.store) S.order (view_of run.old.arenas))
-        (world l (S.seen run.new.store) S.order (view_of run.new.arenas)) back run.new.now) }
+    ensures { IfOk result (λ _. ChangesBy S.seen S.order code.now run.old run.new (λ made. back.kind ≡ guard_at predicate rule →
+        EndsLevel back made)) }
 {
     let next = rule.saturating_add(1).min(end_of_rules(code, predicate));
     retry(code, run, &call_of(&back, predicate), next)
@@ -301,9 +285,8 @@ fn end_of_rules(code: &Code<'_>, predicate: u32) -> u32
 
 /// Goes on behind a `not`, whose goal has no answer.
 fn end_not<S: StateStore>(run: &mut Run<S>, back: Back)
-    ensures { (l : Loaded) (place : ℕ) → back.kind ≡ not_at place →
-        EndsLevel (world l (S.seen run.old.store) S.order (view_of run.old.arenas))
-        (world l (S.seen run.new.store) S.order (view_of run.new.arenas)) back run.new.now }
+    ensures { Changes S.seen S.order run.old run.new (λ made. (place : ℕ) → back.kind ≡ not_at place →
+        EndsLevel back made) }
 {
     run.arenas.pop();
     run.now = Now::Going(behind_level(back));
@@ -311,9 +294,8 @@ fn end_not<S: StateStore>(run: &mut Run<S>, back: Back)
 
 /// Runs the goal of an `if` for the case that its condition has no answer.
 fn end_if<S: StateStore>(code: &Code<'_>, run: &mut Run<S>, back: Back, place: u32)
-    ensures { (l : Loaded) → l.code ≡ code.now → back.kind ≡ if_at place →
-        EndsLevel (world l (S.seen run.old.store) S.order (view_of run.old.arenas))
-        (world l (S.seen run.new.store) S.order (view_of run.new.arenas)) back run.new.now }
+    ensures { ChangesBy S.seen S.order code.now run.old run.new (λ made. back.kind ≡ if_at place →
+        EndsLevel back made) }
 {
     run.arenas.pop();
     run.now = one_goal(code.child(place, 2), back.base, back.frame);
@@ -327,9 +309,8 @@ fn give_count<S: StateStore>(
     place: u32,
     count: u64,
 ) -> Result<(), AllocError>
-    ensures { IfOk result (λ _. (l : Loaded) → l.code ≡ code.now → back.kind ≡ count_at place count →
-        EndsLevel (world l (S.seen run.old.store) S.order (view_of run.old.arenas))
-        (world l (S.seen run.new.store) S.order (view_of run.new.arenas)) back run.new.now) }
+    ensures { IfOk result (λ _. ChangesBy S.seen S.order code.now run.old run.new (λ made. back.kind ≡ count_at place count →
+        EndsLevel back made)) }
 {
     let step = code.step(place);
     let Node::Count(into) = step.node else {

@@ -1,7 +1,7 @@
 //! The values that are collected.
 ghost use Rattle.std.specs.Prelude.{◌≡◌, ℕ, ◌≤◌, Some, None, length, slice_get, IfOk, IfSome, IfNone};
 ghost use Rattle.pi_engine_arenas.specs.Arenas.{view_of, IsLevel};
-ghost use Rattle.pi_engine_stands.specs.Stands.{Loaded, world, values_between};
+ghost use Rattle.pi_engine_stands.specs.Stands.{values_between};
 ghost use Rattle.pi_engine_stands.specs.Lists.{PlacesValues, list_of};
 ghost use Rattle.pi_engine_stands.specs.Fails.{EndsLevel};
 ghost use Rattle.pi_engine_stands.specs.Makes.{AnswersLevel, collect_at, IsRead};
@@ -9,6 +9,8 @@ ghost use Rattle.pi_terms.specs.Tree.{Tree, Trees};
 ghost use Rattle.pi_constraints.specs.Value.{IsAcyclic, value as value_of};
 ghost use Rattle.pi_constraints.specs.State.{bindings};
 ghost use Rattle.pi_constraints.specs.Store.{IsTerm, AreTerms, Stays};
+ghost use Rattle.pi_engine_stands.specs.Changes.{ChangesBy};
+ghost use Rattle.pi_engine_arenas.specs.Runs.{state_in};
 
 use crate::raises::too_large;
 use crate::values::{slot_at, slot_value};
@@ -33,10 +35,8 @@ pub fn add_value<S: StateStore>(
     back: Back,
     place: u32,
 ) -> Result<(), AllocError>
-    ensures { IfOk result (λ _. (l : Loaded) (first : ℕ) → l.code ≡ code.now →
-        IsLevel (view_of run.old.arenas) run.old.arenas.level back → back.kind ≡ collect_at place first →
-        AnswersLevel (world l (S.seen run.old.store) S.order (view_of run.old.arenas))
-        (world l (S.seen run.new.store) S.order (view_of run.new.arenas)) run.new.now) }
+    ensures { IfOk result (λ _. ChangesBy S.seen S.order code.now run.old run.new (λ made. (first : ℕ) →
+        IsLevel (view_of run.old.arenas) run.old.arenas.level back → back.kind ≡ collect_at place first → AnswersLevel made)) }
 {
     let step = code.step(place);
     let Node::Collect(value, _) = step.node else {
@@ -58,8 +58,8 @@ pub fn add_value<S: StateStore>(
 /// A term as it is written down, with bindings replaced throughout; None where it is too large.
 pub fn read_value<S: StateStore>(run: &Run<S>, term: Ref) -> Result<Option<Term>, AllocError>
     ensures { IfOk result (λ read. (t : Tree) → IsTerm (S.seen run.exit.now.store) term t →
-        IsAcyclic (bindings (S.seen run.exit.now.store).now.state) →
-        IsRead (value_of (bindings (S.seen run.exit.now.store).now.state) t) read) }
+        IsAcyclic (bindings (state_in S.seen run.exit.now)) →
+        IsRead (value_of (bindings (state_in S.seen run.exit.now)) t) read) }
 {
     match run.store.read_term(run.alloc, term) {
         Ok(read) => Ok(Some(read)),
@@ -76,9 +76,8 @@ pub fn give_list<S: StateStore>(
     place: u32,
     first: usize,
 ) -> Result<(), AllocError>
-    ensures { IfOk result (λ _. (l : Loaded) → l.code ≡ code.now → back.kind ≡ collect_at place first →
-        EndsLevel (world l (S.seen run.old.store) S.order (view_of run.old.arenas))
-        (world l (S.seen run.new.store) S.order (view_of run.new.arenas)) back run.new.now) }
+    ensures { IfOk result (λ _. ChangesBy S.seen S.order code.now run.old run.new (λ made. back.kind ≡ collect_at place first →
+        EndsLevel back made)) }
 {
     let step = code.step(place);
     let Node::Collect(_, into) = step.node else {

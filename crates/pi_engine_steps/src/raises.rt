@@ -11,11 +11,12 @@ ghost use Rattle.pi_engine_arenas.specs.declared.run.Now.TheVariants.{Raising, E
 ghost use Rattle.pi_engine_arenas.specs.declared.run.End.TheVariants.{Raised};
 ghost use Rattle.pi_engine_arenas.specs.declared.arenas.Kind.TheVariants.{Catch, Exit};
 ghost use Rattle.pi_engine_arenas.specs.declared.arenas.Kind.{Kind};
-ghost use Rattle.pi_engine_arenas.specs.Arenas.{view_of, newest};
+ghost use Rattle.pi_engine_arenas.specs.Arenas.{newest};
 ghost use Rattle.pi_engine_arenas.specs.declared.arenas.Entry.{Entry};
-ghost use Rattle.pi_engine_stands.specs.Stands.{Loaded, world};
 ghost use Rattle.pi_engine_stands.specs.Makes.{RunsGoal, IsCopied, raised_for, apply_at, unresolved_for};
 ghost use Rattle.pi_engine_stands.specs.Raises.{Raises, RaisesFrom, IsDropped, TellsCaught, collected_below};
+ghost use Rattle.pi_engine_stands.specs.Changes.{Changes, ChangesBy};
+ghost use Rattle.pi_engine_arenas.specs.Runs.{state_in};
 
 use crate::choices::{come_back, one_goal};
 use crate::levels::enter_level;
@@ -39,9 +40,7 @@ pub fn enter_catch<S: StateStore>(
     step: Step,
     ball: Operand,
 ) -> Result<(), AllocError>
-    ensures { IfOk result (λ _. step.node ≡ Node.Catch ball → (l : Loaded) → l.code ≡ code.now →
-        RunsGoal (world l (S.seen run.old.store) S.order (view_of run.old.arenas))
-        (world l (S.seen run.new.store) S.order (view_of run.new.arenas)) point step run.new.now) }
+    ensures { IfOk result (λ _. step.node ≡ Node.Catch ball → ChangesBy S.seen S.order code.now run.old run.new (RunsGoal point step)) }
 {
     let _wanted = value(code, run, ball, point.first_slot(step))?;
     enter_level(code, run, point, step, Kind::Catch(point.place))
@@ -56,9 +55,7 @@ pub fn throw<S: StateStore>(
     step: Step,
     operand: Operand,
 ) -> Result<(), AllocError>
-    ensures { IfOk result (λ _. step.node ≡ Throw operand → (l : Loaded) → l.code ≡ code.now →
-        RunsGoal (world l (S.seen run.old.store) S.order (view_of run.old.arenas))
-        (world l (S.seen run.new.store) S.order (view_of run.new.arenas)) point step run.new.now) }
+    ensures { IfOk result (λ _. step.node ≡ Throw operand → ChangesBy S.seen S.order code.now run.old run.new (RunsGoal point step)) }
 {
     let term = value(code, run, operand, point.first_slot(step))?;
     let ball = ball_of(run, term)?;
@@ -69,8 +66,8 @@ pub fn throw<S: StateStore>(
 /// What is raised for a term.
 fn ball_of<S: StateStore>(run: &Run<S>, term: Ref) -> Result<Term, AllocError>
     ensures { IfOk result (λ ball. (t : Tree) → IsTerm (S.seen run.exit.now.store) term t →
-        IsAcyclic (bindings (S.seen run.exit.now.store).now.state) →
-        ball ≡ raised_for (value_of (bindings (S.seen run.exit.now.store).now.state) t)) }
+        IsAcyclic (bindings (state_in S.seen run.exit.now)) →
+        ball ≡ raised_for (value_of (bindings (state_in S.seen run.exit.now)) t)) }
 {
     let copy = copied(run, term)?;
     match copy {
@@ -87,9 +84,8 @@ pub fn no_value<S: StateStore>(
     back: Back,
     place: u32,
 ) -> Result<(), AllocError>
-    ensures { IfOk result (λ _. (l : Loaded) (caller : ℕ) → l.code ≡ code.now → back.kind ≡ apply_at place caller →
-        EndsLevel (world l (S.seen run.old.store) S.order (view_of run.old.arenas))
-        (world l (S.seen run.new.store) S.order (view_of run.new.arenas)) back run.new.now) }
+    ensures { IfOk result (λ _. ChangesBy S.seen S.order code.now run.old run.new (λ made. (caller : ℕ) →
+        back.kind ≡ apply_at place caller → EndsLevel back made)) }
 {
     let step = code.step(place);
     let Node::Apply(predicate, _, _) = step.node else {
@@ -110,8 +106,8 @@ pub fn no_value<S: StateStore>(
 /// What is raised for a function call that has no value.
 fn unresolved<S: StateStore>(run: &Run<S>, call: Ref) -> Result<Term, AllocError>
     ensures { IfOk result (λ ball. (t : Tree) → IsTerm (S.seen run.exit.now.store) call t →
-        IsAcyclic (bindings (S.seen run.exit.now.store).now.state) →
-        ball ≡ unresolved_for (value_of (bindings (S.seen run.exit.now.store).now.state) t)) }
+        IsAcyclic (bindings (state_in S.seen run.exit.now)) →
+        ball ≡ unresolved_for (value_of (bindings (state_in S.seen run.exit.now)) t)) }
 {
     let copy = copied(run, call)?;
     match copy {
@@ -142,8 +138,8 @@ pub fn take_block(
 /// A copy of a term outside of the store, with variables from 0 on; None where it is too large.
 fn copied<S: StateStore>(run: &Run<S>, term: Ref) -> Result<Option<Term>, AllocError>
     ensures { IfOk result (λ made. (t : Tree) → IsTerm (S.seen run.exit.now.store) term t →
-        IsAcyclic (bindings (S.seen run.exit.now.store).now.state) →
-        IsCopied (value_of (bindings (S.seen run.exit.now.store).now.state) t) made) }
+        IsAcyclic (bindings (state_in S.seen run.exit.now)) →
+        IsCopied (value_of (bindings (state_in S.seen run.exit.now)) t) made) }
 {
     let Some(read) = read_value(run, term)? else {
         return Ok(None);
@@ -161,9 +157,7 @@ pub fn too_large<S: StateStore>(run: &Run<S>) -> Result<Term, AllocError>
 /// Hands an exception to the newest entry, which is taken from the stack; without one it ends the run.
 #[inline(never)]
 pub fn unwind<S: StateStore>(code: &Code<'_>, run: &mut Run<S>) -> Result<(), AllocError>
-    ensures { IfOk result (λ _. (l : Loaded) → l.code ≡ code.now →
-        Raises (world l (S.seen run.old.store) S.order (view_of run.old.arenas))
-        (world l (S.seen run.new.store) S.order (view_of run.new.arenas)) run.old.now run.new.now) }
+    ensures { IfOk result (λ _. ChangesBy S.seen S.order code.now run.old run.new (Raises run.old.now)) }
 {
     let Some(entry) = run.arenas.newest() else {
         end_raised(run);
@@ -207,9 +201,8 @@ fn end_raised<S: StateStore>(run: &mut Run<S>)
 
 /// Drops the newest entry, which catches nothing, with what was made since, and the values that were collected for it.
 fn drop_entry<S: StateStore>(run: &mut Run<S>, back: Back)
-    ensures { (l : Loaded) → IsDropped back.kind →
-        RaisesFrom (world l (S.seen run.old.store) S.order (view_of run.old.arenas))
-        (world l (S.seen run.new.store) S.order (view_of run.new.arenas)) back run.old.now run.new.now }
+    ensures { Changes S.seen S.order run.old run.new (λ made. IsDropped back.kind →
+        RaisesFrom back run.old.now made) }
 {
     let first = collected_before(back.kind, count_collected(run));
     run.arenas.collected.truncate(first);
@@ -247,8 +240,7 @@ fn collected_before_level(strict: Strict, count: usize) -> usize
 
 /// Drops a `catch` that was left, with all above it: the newest entry says so, and what is raised comes from behind it.
 fn pass_left<S: StateStore>(run: &mut Run<S>, exit: Back)
-    ensures { (l : Loaded) → exit.kind ≡ Exit → RaisesFrom (world l (S.seen run.old.store) S.order (view_of run.old.arenas))
-        (world l (S.seen run.new.store) S.order (view_of run.new.arenas)) exit run.old.now run.new.now }
+    ensures { Changes S.seen S.order run.old run.new (λ made. exit.kind ≡ Exit → RaisesFrom exit run.old.now made) }
 {
     if let Some(entry) = run.arenas.entry(exit.level) {
         let back = entry.back;
@@ -258,10 +250,8 @@ fn pass_left<S: StateStore>(run: &mut Run<S>, exit: Back)
 
 /// Runs the handler of a `catch` from the state of its entry, where its ball unifies with the one that was raised.
 fn try_catch<S: StateStore>(code: &Code<'_>, run: &mut Run<S>, place: u32) -> Result<(), AllocError>
-    ensures { IfOk result (λ _. (l : Loaded) (x : Entry S.Mark) → l.code ≡ code.now →
-        newest run.old.arenas.entries.items ≡ Some x → x.back.kind ≡ Catch place →
-        Raises (world l (S.seen run.old.store) S.order (view_of run.old.arenas))
-        (world l (S.seen run.new.store) S.order (view_of run.new.arenas)) run.old.now run.new.now) }
+    ensures { IfOk result (λ _. ChangesBy S.seen S.order code.now run.old run.new (λ made. (x : Entry S.Mark) →
+        newest run.old.arenas.entries.items ≡ Some x → x.back.kind ≡ Catch place → Raises run.old.now made)) }
 {
     come_back(run);
     let Some(entry) = run.arenas.newest() else {
@@ -289,9 +279,7 @@ fn is_caught<S: StateStore>(
     step: Step,
     ball: &Term,
 ) -> Result<bool, AllocError>
-    ensures { IfOk result (λ found. (l : Loaded) → l.code ≡ code.now →
-        TellsCaught (world l (S.seen run.old.store) S.order (view_of run.old.arenas))
-        (world l (S.seen run.new.store) S.order (view_of run.new.arenas)) back step ball.now found) }
+    ensures { IfOk result (λ found. ChangesBy S.seen S.order code.now run.old run.new (TellsCaught back step ball.now found)) }
 {
     let Node::Catch(operand) = step.node else {
         return Ok(false);

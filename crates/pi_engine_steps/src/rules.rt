@@ -1,23 +1,16 @@
 //! The rules of a call: heads, conditions, and the choices that they leave.
 ghost use Rattle.std.specs.Prelude.{◌≡◌, ◌⊎◌, ℕ, ◌+◌, ◌≤◌, ◌<◌, true, false, Some, IfOk, MatchOption, length, slice_get};
-ghost use Rattle.pi_engine_arenas.specs.Arenas.{view_of};
-ghost use Rattle.pi_engine_stands.specs.Stands.{Loaded, world};
+ghost use Rattle.pi_engine_arenas.specs.Arenas.{keeping};
 ghost use Rattle.pi_engine_stands.specs.Tries.{KeepsCall, TakesRule, EntersGuard, AppliesRule, TakesGuarded, TriesRules};
+ghost use Rattle.pi_engine_stands.specs.Changes.{Changes, ChangesBy};
+ghost use Rattle.pi_engine_arenas.specs.Runs.{across};
 
 use crate::choices::{one_goal, push_entry_at};
 use crate::heads::matches;
 use pi_constraints::StateStore;
-use pi_engine_arenas::{Back, Blocks, Kind, Now, Point, Run, Strict};
+use pi_engine_arenas::{Back, Blocks, Call, Kind, Now, Point, Run, Strict};
 use pi_engine_code::{Code, Predicate, Rule};
 use std::alloc::AllocError;
-
-/// A call that is made: its predicate, where its block begins, and the frame to go on with.
-#[derive(Clone, Copy)]
-pub struct Call {
-    pub predicate: u32,
-    pub base: usize,
-    pub frame: usize,
-}
 
 /// Goes on with the first of the call's rules from `from` on whose head matches, where this is the call's predicate.
 /// `is_again` says that the newest entry is this call's; it stays only where it is needed further.
@@ -29,11 +22,9 @@ pub fn try_rules<S: StateStore>(
     from: u32,
     is_again: bool,
 ) -> Result<(), AllocError>
-    ensures { IfOk result (λ _. (l : Loaded) → l.code ≡ code.now →
-        slice_get code.now.predicates.items call.now.predicate ≡ Some predicate.now →
-        TriesRules (world l (S.seen run.old.store) S.order (view_of run.old.arenas))
-        (world l (S.seen run.new.store) S.order (view_of run.new.arenas)) call.now.predicate call.now.base call.now.frame from
-        is_again run.new.now) }
+    ensures { IfOk result (λ _. ChangesBy S.seen S.order code.now run.old run.new
+        (λ made. slice_get code.now.predicates.items call.now.predicate ≡ Some predicate.now →
+        TriesRules call.now from is_again made)) }
 {
     for number in from..predicate.end {
         if let Some(rule) = code.rule(number) {
@@ -57,10 +48,7 @@ pub fn retry<S: StateStore>(
     call: &Call,
     from: u32,
 ) -> Result<(), AllocError>
-    ensures { IfOk result (λ _. (l : Loaded) → l.code ≡ code.now →
-        TriesRules (world l (S.seen run.old.store) S.order (view_of run.old.arenas))
-        (world l (S.seen run.new.store) S.order (view_of run.new.arenas)) call.now.predicate call.now.base call.now.frame from true
-        run.new.now) }
+    ensures { IfOk result (λ _. ChangesBy S.seen S.order code.now run.old run.new (TriesRules call.now from true)) }
 {
     let Some(called) = code.predicate_there(call.predicate) else {
         run.now = Now::Failing;
@@ -99,9 +87,7 @@ fn apply<S: StateStore>(
     number: u32,
     is_again: bool,
 ) -> Result<(), AllocError>
-    ensures { IfOk result (λ _. (l : Loaded) → AppliesRule (world l (S.seen run.old.store) S.order (view_of run.old.arenas))
-        (world l (S.seen run.new.store) S.order (view_of run.new.arenas)) call.now.predicate call.now.base call.now.frame number
-        is_again predicate.now rule.now run.new.now) }
+    ensures { IfOk result (λ _. Changes S.seen S.order run.old run.new (AppliesRule call.now number is_again predicate.now rule.now)) }
 {
     match rule.guard {
         None => take_rule(run, call, predicate, rule, number, is_again),
@@ -120,9 +106,7 @@ fn take_rule<S: StateStore>(
     number: u32,
     is_again: bool,
 ) -> Result<(), AllocError>
-    ensures { IfOk result (λ _. (l : Loaded) → TakesRule (world l (S.seen run.old.store) S.order (view_of run.old.arenas))
-        (world l (S.seen run.new.store) S.order (view_of run.new.arenas)) call.now.predicate call.now.base call.now.frame number
-        is_again predicate.now rule.now run.new.now) }
+    ensures { IfOk result (λ _. Changes S.seen S.order run.old run.new (TakesRule call.now number is_again predicate.now rule.now)) }
 {
     if let Some(next) = later_rule(rule, number, predicate.end) {
         let kind = Kind::Rules(call.predicate, next);
@@ -162,9 +146,7 @@ fn enter_guard<S: StateStore>(
     number: u32,
     is_again: bool,
 ) -> Result<(), AllocError>
-    ensures { IfOk result (λ _. (l : Loaded) → EntersGuard (world l (S.seen run.old.store) S.order (view_of run.old.arenas))
-        (world l (S.seen run.new.store) S.order (view_of run.new.arenas)) call.now.predicate call.now.base call.now.frame number
-        is_again predicate.now guard run.new.now) }
+    ensures { IfOk result (λ _. Changes S.seen S.order run.old run.new (EntersGuard call.now number is_again predicate.now guard)) }
 {
     let kind = Kind::Strict(Strict::Guard(call.predicate, number));
     keep(run, call, predicate.arity, kind, is_again)?;
@@ -182,8 +164,7 @@ pub fn keep<S: StateStore>(
     is_again: bool,
 ) -> Result<(), AllocError>
     ensures { IfOk result (λ _. call.now.base + arity ≤ length run.old.arenas.blocks.slots →
-        KeepsCall S.order (S.seen run.old.store) (S.seen run.new.store) (view_of run.old.arenas) (view_of run.new.arenas)
-        (call.now.base + arity) call.now.base call.now.frame kind is_again) }
+        KeepsCall S.order (across S.seen run.old run.new) (keeping (call.now.base + arity) call.now.base call.now.frame kind) is_again) }
 {
     if is_again {
         run.arenas.set_newest(kind);
@@ -203,9 +184,7 @@ pub fn take_guarded<S: StateStore>(
     predicate: u32,
     number: u32,
 ) -> Result<(), AllocError>
-    ensures { IfOk result (λ _. (l : Loaded) → l.code ≡ code.now →
-        TakesGuarded (world l (S.seen run.old.store) S.order (view_of run.old.arenas))
-        (world l (S.seen run.new.store) S.order (view_of run.new.arenas)) level back predicate number run.new.now) }
+    ensures { IfOk result (λ _. ChangesBy S.seen S.order code.now run.old run.new (TakesGuarded level back predicate number)) }
 {
     let Some(rule) = code.rule(number) else {
         run.now = Now::Failing;

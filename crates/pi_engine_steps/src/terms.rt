@@ -1,10 +1,9 @@
 //! `call` of a term: the goal by which it is called runs in a block of its own.
 ghost use Rattle.std.specs.Prelude.{◌≡◌, Some, IfOk, slice_get};
 ghost use Rattle.pi_engine_code.specs.declared.code.Node.{Node};
-ghost use Rattle.pi_engine_arenas.specs.Arenas.{view_of};
-ghost use Rattle.pi_engine_stands.specs.Stands.{Loaded, world};
 ghost use Rattle.pi_constraints.specs.declared.store.Ref.{Ref};
 ghost use Rattle.pi_engine_stands.specs.Makes.{RunsGoal};
+ghost use Rattle.pi_engine_stands.specs.Changes.{ChangesBy};
 
 use crate::calls::take_arguments;
 use pi_constraints::{Ref, StateStore};
@@ -25,9 +24,8 @@ pub fn call_term<S: StateStore>(
     operands: u32,
     count: u32,
 ) -> Result<(), AllocError>
-    ensures { IfOk result (λ _. step.node ≡ Node.CallTerm operands count → (l : Loaded) → l.code ≡ code.now →
-        RunsGoal (world l (S.seen run.old.store) S.order (view_of run.old.arenas))
-        (world l (S.seen run.new.store) S.order (view_of run.new.arenas)) point step run.new.now) }
+    ensures { IfOk result (λ _. step.node ≡ Node.CallTerm operands count →
+        ChangesBy S.seen S.order code.now run.old run.new (RunsGoal point step)) }
 {
     take_arguments(code, run, point.first_slot(step), operands, count)?;
     let Some(name) = take_called(&run.store, &run.terms, &mut run.parts)? else {

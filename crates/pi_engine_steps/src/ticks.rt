@@ -1,6 +1,6 @@
 //! Ticks, as a machine counts them.
 ghost use Rattle.pi_meaning.specs.Machine.Budget.{Counts};
-ghost use Rattle.pi_engine_stands.specs.Goes.{Ticks, TicksUnless};
+ghost use Rattle.pi_engine_stands.specs.Goes.{Ticks, TicksUnless, counting};
 
 use pi_engine_arenas::{End, Now};
 use pi_meaning::{Budget, Mode};
@@ -9,7 +9,7 @@ use pi_meaning::{Budget, Mode};
 #[inline(always)]
 pub fn tick_call(is_quiet: bool, mode: Mode, now: &mut Now, budget: &mut Budget) -> bool
     ensures counts { Counts mode budget.old budget.new }
-    ensures ticks { TicksUnless is_quiet mode budget.old budget.new now.old now.new result }
+    ensures ticks { TicksUnless is_quiet (counting mode budget.old budget.new) now.old now.new result }
 {
     is_quiet || tick(mode, now, budget)
 }

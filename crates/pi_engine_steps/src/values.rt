@@ -5,12 +5,13 @@ ghost use Rattle.pi_terms.specs.Places.{Places, held};
 ghost use Rattle.pi_constraints.specs.Store.{Terms};
 ghost use Rattle.pi_constraints.specs.Evaluation.{slot_term, evaluated};
 ghost use Rattle.pi_unify.specs.Copying.{AreBuilt};
-ghost use Rattle.pi_engine_arenas.specs.Arenas.{view_of};
 ghost use Rattle.pi_engine_code.specs.Code.{tables_of, operand_tree, spelled_parts};
-ghost use Rattle.pi_engine_stands.specs.Here.{Block, Holds, IsReadable, IsReadablePart};
+ghost use Rattle.pi_engine_stands.specs.Here.{Block, IsReadable, IsReadablePart};
 ghost use Rattle.pi_constraints.specs.Store.{Extend};
 ghost use Rattle.pi_engine_arenas.specs.Frames.{slot_number};
-ghost use Rattle.pi_engine_stands.specs.Evaluates.{Evaluates, Writes, filled_one, filled_by, part_on, parts_between, IsFilledPart, AreReadableParts, AreFilledParts};
+ghost use Rattle.pi_engine_stands.specs.Evaluates.{Evaluates, Writes, filled_one, filled_by, part_on, parts_between, IsFilledPart, AreReadableParts, AreFilledParts, WritesFilling};
+ghost use Rattle.pi_engine_stands.specs.Changes.{HoldsIn};
+ghost use Rattle.pi_engine_arenas.specs.Runs.{across, state_in, terms_in};
 
 use pi_constraints::{Ref, StateStore};
 use pi_engine_arenas::Run;
@@ -27,10 +28,10 @@ pub fn value<S: StateStore>(
     first: usize,
 ) -> Result<Ref, AllocError>
     ensures ok { IfOk result (λ r. (t : Terms) (b : Block) (e : Places) → first ≡ slot_number b.base b.first →
-        IsReadable (tables_of t code.now) b operand → Extend t (S.seen run.old.store).now.terms →
-        Holds (S.seen run.old.store).now.terms run.old.arenas.blocks.slots b e →
-        Evaluates b (S.seen run.old.store) (S.seen run.new.store) (view_of run.old.arenas) (view_of run.new.arenas)
-        (evaluated (operand_tree (tables_of t code.now) operand) e (S.seen run.old.store).now.state) r) }
+        IsReadable (tables_of t code.now) b operand → Extend t (terms_in S.seen run.old) →
+        HoldsIn S.seen run.old b e →
+        Evaluates b (across S.seen run.old run.new)
+        (evaluated (operand_tree (tables_of t code.now) operand) e (state_in S.seen run.old)) r) }
     ensures terms { run.new.terms ≡ run.old.terms }
 {
     match operand {
@@ -54,9 +55,9 @@ pub fn slot_at(first: usize, slot: u32) -> usize
 #[inline(always)]
 pub fn slot_value<S: StateStore>(run: &mut Run<S>, slot: usize) -> Result<Ref, AllocError>
     ensures ok { IfOk result (λ r. (b : Block) (k : ℕ) (e : Places) → slot ≡ slot_number (slot_number b.base b.first) k →
-        k < b.count → Holds (S.seen run.old.store).now.terms run.old.arenas.blocks.slots b e →
-        Evaluates b (S.seen run.old.store) (S.seen run.new.store) (view_of run.old.arenas) (view_of run.new.arenas)
-        (slot_term (held e k) k e (S.seen run.old.store).now.state) r) }
+        k < b.count → HoldsIn S.seen run.old b e →
+        Evaluates b (across S.seen run.old run.new)
+        (slot_term (held e k) k e (state_in S.seen run.old)) r) }
     ensures made { run.new.made ≡ run.old.made }
     ensures terms { run.new.terms ≡ run.old.terms }
 {
@@ -81,12 +82,9 @@ fn fill_slots<S: StateStore>(
 ) -> Result<(), AllocError>
     ensures ok { IfOk result (λ _. (t : Terms) (b : Block) (e : Places) → first ≡ slot_number b.base b.first → from ≤ to →
         to ≤ length code.now.parts.items → AreReadableParts (tables_of t code.now) b
-        (parts_between (tables_of t code.now) from to) → Holds (S.seen run.old.store).now.terms run.old.arenas.blocks.slots b e →
-        Writes b (S.seen run.old.store) (S.seen run.new.store) (view_of run.old.arenas) (view_of run.new.arenas)
-        (filled_by (parts_between (tables_of t code.now) from to)
-        (record { slots = e; state = (S.seen run.old.store).now.state })).slots
-        (filled_by (parts_between (tables_of t code.now) from to)
-        (record { slots = e; state = (S.seen run.old.store).now.state })).state) }
+        (parts_between (tables_of t code.now) from to) → HoldsIn S.seen run.old b e →
+        WritesFilling b (across S.seen run.old run.new) (filled_by (parts_between (tables_of t code.now) from to)
+        (record { slots = e; state = state_in S.seen run.old }))) }
     ensures terms { run.new.terms ≡ run.old.terms }
 {
     for i in from..to {
@@ -99,10 +97,8 @@ fn fill_slots<S: StateStore>(
 
 fn fill_part<S: StateStore>(run: &mut Run<S>, part: Part, first: usize) -> Result<(), AllocError>
     ensures ok { IfOk result (λ _. (t : Terms) (b : Block) (e : Places) → first ≡ slot_number b.base b.first →
-        IsReadablePart t b part → Holds (S.seen run.old.store).now.terms run.old.arenas.blocks.slots b e →
-        Writes b (S.seen run.old.store) (S.seen run.new.store) (view_of run.old.arenas) (view_of run.new.arenas)
-        (filled_one part (record { slots = e; state = (S.seen run.old.store).now.state })).slots
-        (filled_one part (record { slots = e; state = (S.seen run.old.store).now.state })).state) }
+        IsReadablePart t b part → HoldsIn S.seen run.old b e →
+        WritesFilling b (across S.seen run.old run.new) (filled_one part (record { slots = e; state = state_in S.seen run.old }))) }
     ensures terms { run.new.terms ≡ run.old.terms }
 {
     match part {
@@ -125,16 +121,16 @@ fn put_together<S: StateStore>(
     first: usize,
 ) -> Result<Ref, AllocError>
     ensures ok { IfOk result (λ r. (t : Terms) (b : Block) (f : Places) (u : Tree) → first ≡ slot_number b.base b.first →
-        from ≤ to → to ≤ length code.now.parts.items → Extend t (S.seen run.old.store).now.terms →
+        from ≤ to → to ≤ length code.now.parts.items → Extend t (terms_in S.seen run.old) →
         AreReadableParts (tables_of t code.now) b (parts_between (tables_of t code.now) from to) →
         AreFilledParts f (parts_between (tables_of t code.now) from to) →
         spelled_parts (tables_of t code.now) (parts_between (tables_of t code.now) from to) ≡ tree u no_trees →
-        Holds (S.seen run.old.store).now.terms run.old.arenas.blocks.slots b f →
-        Evaluates b (S.seen run.old.store) (S.seen run.new.store) (view_of run.old.arenas) (view_of run.new.arenas)
+        HoldsIn S.seen run.old b f →
+        Evaluates b (across S.seen run.old run.new)
         (record {
-          tree = (evaluated u f (S.seen run.old.store).now.state).tree;
+          tree = (evaluated u f (state_in S.seen run.old)).tree;
           slots = f;
-          state = (S.seen run.old.store).now.state;
+          state = state_in S.seen run.old;
         }) r) }
     ensures terms { run.new.terms ≡ run.old.terms }
 {
@@ -157,12 +153,12 @@ fn add_part<S: StateStore>(
     first: usize,
 ) -> Result<(), AllocError>
     ensures ok { IfOk result (λ _. (t : Terms) (b : Block) (f : Places) (us : Trees) → first ≡ slot_number b.base b.first →
-        Extend t (S.seen run.old.store).now.terms → IsReadablePart t b part → IsFilledPart f part →
-        Holds (S.seen run.old.store).now.terms run.old.arenas.blocks.slots b f →
+        Extend t (terms_in S.seen run.old) → IsReadablePart t b part → IsFilledPart f part →
+        HoldsIn S.seen run.old b f →
         AreBuilt (S.seen run.old.store) run.old.made.items us →
-        Writes b (S.seen run.old.store) (S.seen run.new.store) (view_of run.old.arenas) (view_of run.new.arenas) f
-        (S.seen run.old.store).now.state × AreBuilt (S.seen run.new.store) run.new.made.items
-        (part_on (tables_of t code.now) part f (S.seen run.old.store).now.state us)) }
+        Writes b (across S.seen run.old run.new) f
+        (state_in S.seen run.old) × AreBuilt (S.seen run.new.store) run.new.made.items
+        (part_on (tables_of t code.now) part f (state_in S.seen run.old) us)) }
     ensures terms { run.new.terms ≡ run.old.terms }
 {
     let term = match part {

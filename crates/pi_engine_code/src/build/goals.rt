@@ -1,12 +1,12 @@
 //! Goals as steps.
-ghost use Rattle.std.specs.Prelude.{◌≡◌, ◌+◌, ◌-◌, ◌++◌, ◌∷◌, [], ℕ, List, false, true, replicate, IfOk, length};
+ghost use Rattle.std.specs.Prelude.{◌≡◌, ◌+◌, ◌-◌, ◌++◌, ◌∷◌, [], List, false, true, replicate, IfOk, length};
 ghost use Rattle.pi_core.specs.GoalTree.{nodes, child_goals};
 ghost use Rattle.pi_core.specs.GoalCells.{kind_shown};
 ghost use Rattle.pi_constraints.specs.Store.{Keeps};
 ghost use Rattle.pi_core.specs.declared.core_program.CorePred.{CorePred};
 ghost use Rattle.pi_core.specs.declared.goal_node.GoalKind.TheVariants.{Call as CallKind, Apply as ApplyKind};
 ghost use Rattle.pi_engine_code.specs.Numbers.{IsNumbering};
-ghost use Rattle.pi_engine_code.specs.Laid.{tables_for, Longer, AddsOperands, AddsSteps, OperandsAt, IsNodeOf, StepsAt, IsLaid, IsValueLaid, AreResolved, marked, before_last, Sized};
+ghost use Rattle.pi_engine_code.specs.Laid.{tables_for, Longer, AddsOperands, AddsSteps, OperandsAt, IsNodeOf, StepsAt, IsLaid, IsValueLaid, AreResolved, marked, before_last, Sized, layout_in};
 
 use super::sizes::{child_count, sizes_of};
 use super::terms::operand_of;
@@ -35,7 +35,7 @@ impl Builder<'_> {
         ensures place { IfOk result (λ place. place ≡ length code.old.steps.items) }
         ensures long { IfOk result (λ _. length code.new.steps.items ≡ length code.old.steps.items + nodes goal.now) }
         ensures laid { IfOk result (λ place. (preds : List CorePred) → IsNumbering self.now.numbers preds →
-            IsLaid preds (tables_for preds (S.seen store.new).now.terms code.new) code.new.steps.items shape.first_slot shape.slots
+            IsLaid (layout_in preds (S.seen store.new) code.new shape)
             place goal.now is_last) }
         ensures resolved { IfOk result (λ _. (preds : List CorePred) → IsNumbering self.now.numbers preds →
             AreResolved preds code.old.steps.items → AreResolved preds code.new.steps.items) }
@@ -63,7 +63,7 @@ impl Builder<'_> {
         ensures adds { IfOk result (λ _. AddsSteps (S.seen store.old) (S.seen store.new) code.old code.new) }
         ensures long { IfOk result (λ _. length code.new.steps.items ≡ length code.old.steps.items + nodes goal.now) }
         ensures are { IfOk result (λ _. (preds : List CorePred) → IsNumbering self.now.numbers preds →
-            StepsAt preds (tables_for preds (S.seen store.new).now.terms code.new) code.new.steps.items shape.first_slot shape.slots
+            StepsAt (layout_in preds (S.seen store.new) code.new shape)
             (length code.old.steps.items) (marked goal.now is_last)) }
         ensures resolved { IfOk result (λ _. (preds : List CorePred) → IsNumbering self.now.numbers preds →
             AreResolved preds code.old.steps.items → AreResolved preds code.new.steps.items) }

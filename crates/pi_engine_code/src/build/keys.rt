@@ -1,8 +1,6 @@
 //! The keys by which facts are found.
 ghost use Rattle.std.specs.Prelude.{◌≡◌, ◌<◌, ◌≤◌, ℕ, Some, slice_get, IfOk};
-ghost use Rattle.pi_engine_code.specs.Keys.{Has};
-ghost use Rattle.pi_engine_code.specs.declared.code.Predicate.{Predicate as Pred};
-ghost use Rattle.pi_engine_code.specs.Keyed.{shown_by, IsFactKeyed, IsPlaceKeyed, ArePlaces, AreKeyed, StillHas};
+ghost use Rattle.pi_engine_code.specs.Keyed.{shown_by, IsFactKeyed, ArePlaces, AreKeyed, StillHas};
 
 use super::short;
 use crate::code::{Code, HeadTest, Predicate};

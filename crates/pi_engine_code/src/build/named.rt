@@ -9,7 +9,7 @@ ghost use Rattle.pi_meaning.specs.CoreMeaning.Sound.{IsAnother};
 ghost use Rattle.pi_lib_builtin.specs.Resolved.{rows_shown};
 ghost use Rattle.pi_engine_code.specs.Numbers.{IsNumbering};
 ghost use Rattle.pi_engine_code.specs.Laid.{AddsSteps, AreResolved, tables_for};
-ghost use Rattle.pi_engine_code.specs.Callables.{AreCallable, AddsPlaces, HasPlaces, AreNamed, names_called};
+ghost use Rattle.pi_engine_code.specs.Callables.{AreCallable, AddsPlaces, HasPlaces, AreNamed, names_called, placing};
 
 use super::{Builder, Shape};
 use crate::callables::Callables;
@@ -60,8 +60,9 @@ impl Builder<'_> {
         ensures resolved { IfOk result (λ _. (all : List Pred) → IsNumbering self.now.numbers all →
             AreResolved all code.old.steps.items → AreResolved all code.new.steps.items) }
         ensures right { IfOk result (λ _. (all : List Pred) → IsNumbering self.now.numbers all →
-            IsAcyclic (bindings (S.seen store.old).now.state) →
-            AddsPlaces all (S.seen store.old) (S.seen store.new) code.old code.new callables.old callables.new name.now arity) }
+        IsAcyclic (bindings (S.seen store.old).now.state) →
+        AddsPlaces all (placing (S.seen store.old) code.old callables.old)
+        (placing (S.seen store.new) code.new callables.new) name.now arity) }
         ensures has { IfOk result (λ _. IsAcyclic (bindings (S.seen store.old).now.state) →
             HasPlaces (S.seen store.old).names (S.seen store.new).names callables.old callables.new name.now arity) }
     {

@@ -8,9 +8,9 @@ ghost use Rattle.pi_core.specs.CoreTree.{index_of, pattern_tree, pattern_trees, 
 ghost use Rattle.pi_core.specs.declared.core_program.CorePred.{CorePred as Pred};
 ghost use Rattle.pi_engine_code.specs.declared.code.HeadTest.TheVariants.{Deep};
 ghost use Rattle.pi_core.specs.CoreTree.{leaves_others};
-ghost use Rattle.pi_engine_code.specs.LaidRules.{IsTestOf};
+ghost use Rattle.pi_engine_code.specs.LaidRules.{IsTestOf, tables_with};
 ghost use Rattle.pi_engine_code.specs.Numbers.{IsNumbering};
-ghost use Rattle.pi_engine_code.specs.Laid.{Adds, AddsSteps, IsLaid, AreResolved, tables_for};
+ghost use Rattle.pi_engine_code.specs.Laid.{Adds, AddsSteps, IsLaid, AreResolved, layout_in};
 ghost use Rattle.pi_engine_code.specs.LaidRules.{AddsRule, AddsRules, TestsAt, IsGuardLaid, IsBodyEnd, IsRuleLaid, IsPredicateLaid, PredicatesAt};
 
 use super::{Builder, Shape, short};
@@ -33,7 +33,7 @@ impl Builder<'_> {
         ensures long { IfOk result (λ _. length code.new.predicates.items ≡ length code.old.predicates.items + length preds.now) }
         ensures laid { IfOk result (λ _. (all : List Pred) → IsNumbering self.now.numbers all →
             IsAcyclic (bindings (S.seen store.old).now.state) →
-            PredicatesAt all (tables_for all (S.seen store.new).now.terms code.new) (S.seen store.new).names code.new
+            PredicatesAt (tables_with all (S.seen store.new) code.new)
             (length code.old.predicates.items) (map pred_tree preds.now)) }
         ensures resolved { IfOk result (λ _. (all : List Pred) → IsNumbering self.now.numbers all →
             AreResolved all code.old.steps.items → AreResolved all code.new.steps.items) }
@@ -56,7 +56,7 @@ impl Builder<'_> {
         ensures adds { IfOk result (λ _. AddsRules (S.seen store.old) (S.seen store.new) code.old code.new) }
         ensures laid { IfOk result (λ predicate. (all : List Pred) → IsNumbering self.now.numbers all →
             IsAcyclic (bindings (S.seen store.old).now.state) →
-            IsPredicateLaid all (tables_for all (S.seen store.new).now.terms code.new) (S.seen store.new).names code.new
+            IsPredicateLaid (tables_with all (S.seen store.new) code.new)
             (pred_tree pred.now) predicate) }
         ensures resolved { IfOk result (λ _. (all : List Pred) → IsNumbering self.now.numbers all →
             AreResolved all code.old.steps.items → AreResolved all code.new.steps.items) }
@@ -86,8 +86,7 @@ impl Builder<'_> {
         ensures adds { IfOk result (λ _. AddsRule (S.seen store.old) (S.seen store.new) code.old code.new) }
         ensures laid { IfOk result (λ rule. (all : List Pred) → IsNumbering self.now.numbers all →
             IsAcyclic (bindings (S.seen store.old).now.state) →
-            IsRuleLaid all (tables_for all (S.seen store.new).now.terms code.new)
-            (S.seen store.new).names code.new.steps.items code.new.tests.items (pred_tree pred.now) (clause_tree clause.now) rule) }
+            IsRuleLaid (tables_with all (S.seen store.new) code.new) (pred_tree pred.now) (clause_tree clause.now) rule) }
         ensures resolved { IfOk result (λ _. (all : List Pred) → IsNumbering self.now.numbers all →
             AreResolved all code.old.steps.items → AreResolved all code.new.steps.items) }
     {
@@ -121,10 +120,10 @@ impl Builder<'_> {
         ensures keeps { Keeps (S.seen store.old) (S.seen store.new) }
         ensures adds { IfOk result (λ _. AddsSteps (S.seen store.old) (S.seen store.new) code.old code.new) }
         ensures body { IfOk result (λ made. (all : List Pred) → IsNumbering self.now.numbers all →
-            IsLaid all (tables_for all (S.seen store.new).now.terms code.new) code.new.steps.items shape.first_slot shape.slots made.0
+            IsLaid (layout_in all (S.seen store.new) code.new shape) made.0
             clause.now.body (is_none clause.now.value)) }
         ensures behind { IfOk result (λ made. (all : List Pred) → IsNumbering self.now.numbers all →
-            IsBodyEnd (tables_for all (S.seen store.new).now.terms code.new) code.new.steps.items shape.first_slot shape.slots
+            IsBodyEnd (layout_in all (S.seen store.new) code.new shape)
             (made.0 + nodes clause.now.body) made.1 clause.now.value) }
         ensures resolved { IfOk result (λ _. (all : List Pred) → IsNumbering self.now.numbers all →
             AreResolved all code.old.steps.items → AreResolved all code.new.steps.items) }
@@ -153,7 +152,7 @@ impl Builder<'_> {
         ensures keeps { Keeps (S.seen store.old) (S.seen store.new) }
         ensures adds { IfOk result (λ _. AddsSteps (S.seen store.old) (S.seen store.new) code.old code.new) }
         ensures laid { IfOk result (λ place. (all : List Pred) → IsNumbering self.now.numbers all →
-            IsGuardLaid all (tables_for all (S.seen store.new).now.terms code.new) code.new.steps.items shape.first_slot shape.slots
+            IsGuardLaid (layout_in all (S.seen store.new) code.new shape)
             place guard.now) }
         ensures resolved { IfOk result (λ _. (all : List Pred) → IsNumbering self.now.numbers all →
             AreResolved all code.old.steps.items → AreResolved all code.new.steps.items) }

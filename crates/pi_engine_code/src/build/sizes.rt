@@ -1,5 +1,5 @@
 //! How many nodes each goal in a goal has.
-ghost use Rattle.std.specs.Prelude.{◌≡◌, ◌+◌, ◌<◌, IfOk, length};
+ghost use Rattle.std.specs.Prelude.{◌≡◌, ◌+◌, ◌<◌, IfOk};
 ghost use Rattle.pi_core.specs.GoalTree.{GoalTree, nodes, subgoal, child_goals};
 ghost use Rattle.pi_engine_code.specs.Laid.{Sized};
 

@@ -7,7 +7,7 @@ use Rattle.pi_constraints.specs.State.{bindings}
 use Rattle.pi_constraints.specs.Value.{IsAcyclic}
 use Rattle.pi_core.specs.AnswerVariables.{answer_variables}
 use Rattle.pi_constraints.specs.ToldDomains.{told_domains}
-use Rattle.pi_engine_arenas.specs.Arenas.{view_of}
+use Rattle.pi_engine_arenas.specs.Arenas.{view_of, between}
 use Rattle.pi_engine_stands.specs.Stands.{world}
 use Rattle.pi_engine_stands.specs.Answers.{NamesValue}
 use Rattle.pi_unify.specs.Domains.{AreUnbound}
@@ -32,7 +32,7 @@ loop-named-preserved g c = λ n e are holds state.
     let before = c.loop-named.invariant n e are holds state in
     let one = c.in_ok-value.ensures (query_block n) before.slots refl refl (names-at n c.args.names.now c.loop-named.named-index name are at) before.writes.holds before.state in
     tells-more (query_block n) v w u a b d c.args.names.now e c.loop-named.named-index c.loop-named.values c.push.new.self name c.in-Some.value at state before
-    (subst (NamesValue (query_block n) w u b d name (evaluated (var name.slot) before.slots w.now.state)) c.in-Some.is one) c.in_ok-push.ensures.ok
+    (subst (NamesValue (query_block n) (between w u b d) name (evaluated (var name.slot) before.slots w.now.state)) c.in-Some.is one) c.in_ok-push.ensures.ok
 
 pub returns-in_default : goal.returns-in_default
 returns-in_default g c = λ l view p e k es stands none last level are.
@@ -46,7 +46,7 @@ returns-in_default g c = λ l view p e k es stands none last level are.
     let name = c.named-item.result in
     let at : slice_get c.args.names.now c.loop-named.named-index ≡ Some c.named-item.result = slice_get_read c.args.names.now (length c.args.names.now) c.loop-named.named-index c.named-item.result refl c.loop-named-test.true c.named-item.is in
     query-raises w (world l z order d) u z b d c.args.names.now c.loop-named.named-index c.loop-named.values name c.in_ok-too_large.field-0 p view e k es c.loop-named.invariant at
-    (λ block f base first within holds state. subst (NamesValue block u z b d name (evaluated (var name.slot) f u.now.state)) c.in_default.is (c.in_ok-value.ensures block f base first within holds state))
+    (λ block f base first within holds state. subst (NamesValue block (between u z b d) name (evaluated (var name.slot) f u.now.state)) c.in_default.is (c.in_ok-value.ensures block f base first within holds state))
     c.in_ok-too_large.ensures stands none last level are
 
 pub returns : goal.returns

@@ -9,7 +9,7 @@ use Rattle.pi_effects.specs.Results.{ShowsEffect}
 use Rattle.pi_lib_builtin.specs.Names.{function_name, function_arity}
 use Rattle.pi_engine_code.specs.declared.code.Node.{Node}
 use Rattle.pi_engine_code.specs.Code.{tables_of, operand_trees}
-use Rattle.pi_engine_arenas.specs.Arenas.{view_of}
+use Rattle.pi_engine_arenas.specs.Arenas.{view_of, between}
 use Rattle.pi_engine_arenas.specs.Frames.{slot_number}
 use Rattle.pi_engine_stands.specs.Here.{AreReadable}
 use Rattle.pi_engine_stands.specs.Stands.{tables_in, world}
@@ -45,8 +45,8 @@ returns-in_ok-set-in-Ok g c = λ name node l is_code view goal gs e k es at stan
     let tables : T ≡ tables_of l.terms c.args.code.now = ap (tables_of l.terms) is_code in
     let readable = node-readable w p s goal gs e k (Node.BuiltInValue f name first count c.args.into) at is node in
     let begins : c.first_slot-first.result ≡ slot_number b.base b.first = first-slot-of w p s goal gs e k c.first_slot-first.result at is c.first_slot-first.ensures in
-    let evaluates : EvaluatesAll b v v1 a a1 all rs =
-    subst (λ t. EvaluatesAll b v v1 a a1 (evaluated_all (trees_of (operand_trees t first count)) e v.now.state) rs) (sym tables)
+    let evaluates : EvaluatesAll b (between v v1 a a1) all rs =
+    subst (λ t. EvaluatesAll b (between v v1 a a1) (evaluated_all (trees_of (operand_trees t first count)) e v.now.state) rs) (sym tables)
     (c.in_ok-take_arguments.ensures.ok l.terms b e begins (subst (λ t. AreReadable t b first count) tables readable.0) stands.entries.tables is.behind.slots) in
     let state : IsState v1.now.state = subst IsState (sym evaluates.writes.state) (evaluated-all-state (trees_of args) e v.now.state stands.entries.state) in
     let many : length args ≡ count = args-count T first count readable.0.0 in
@@ -84,8 +84,8 @@ returns-in_ok-ball-in-Err g c = λ name node l is_code view goal gs e k es at st
     let tables : T ≡ tables_of l.terms c.args.code.now = ap (tables_of l.terms) is_code in
     let readable = node-readable w p s goal gs e k (Node.BuiltInValue f name first count c.args.into) at is node in
     let begins : c.first_slot-first.result ≡ slot_number b.base b.first = first-slot-of w p s goal gs e k c.first_slot-first.result at is c.first_slot-first.ensures in
-    let evaluates : EvaluatesAll b v v1 a a1 all rs =
-    subst (λ t. EvaluatesAll b v v1 a a1 (evaluated_all (trees_of (operand_trees t first count)) e v.now.state) rs) (sym tables)
+    let evaluates : EvaluatesAll b (between v v1 a a1) all rs =
+    subst (λ t. EvaluatesAll b (between v v1 a a1) (evaluated_all (trees_of (operand_trees t first count)) e v.now.state) rs) (sym tables)
     (c.in_ok-take_arguments.ensures.ok l.terms b e begins (subst (λ t. AreReadable t b first count) tables readable.0) stands.entries.tables is.behind.slots) in
     let state : IsState v1.now.state = subst IsState (sym evaluates.writes.state) (evaluated-all-state (trees_of args) e v.now.state stands.entries.state) in
     let many : length args ≡ count = args-count T first count readable.0.0 in

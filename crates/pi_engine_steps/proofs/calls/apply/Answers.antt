@@ -6,7 +6,7 @@ use Rattle.pi_constraints.specs.Evaluation.{evaluated_all}
 use Rattle.pi_engine_code.specs.declared.code.Node.{Node}
 use Rattle.pi_engine_arenas.specs.declared.arenas.Kind.{Kind}
 use Rattle.pi_engine_arenas.specs.declared.arenas.Strict.{Strict}
-use Rattle.pi_engine_arenas.specs.Arenas.{view_of, opened, pushed}
+use Rattle.pi_engine_arenas.specs.Arenas.{view_of, opened, pushed, between}
 use Rattle.pi_engine_arenas.specs.Blocks.{KeepsBlocks}
 use Rattle.pi_engine_code.specs.Code.{tables_of}
 use Rattle.pi_engine_stands.specs.Here.{Block, AreReadable}
@@ -40,8 +40,8 @@ returns g c = IfOk-weaker c.try_rules.result _ _ (λ _ so into node l is_code ha
     (found-there w q predicate (ap (λ x. slice_get x.predicates.items q) is_code ∙ has)) in
     let readable : AreReadable T block c.args.operands predicate.arity =
     subst (AreReadable T block c.args.operands) it.it.arities (node-readable w p s goal gs e k (Node.Apply q c.args.operands into) at is node).0 in
-    let evaluates : EvaluatesAll block v u a b (evaluated_all (trees_of (operand_trees T c.args.operands predicate.arity)) e v.now.state) c.take_arguments.new.run.terms.items =
-    subst (λ t. EvaluatesAll block v u a b (evaluated_all (trees_of (operand_trees t c.args.operands predicate.arity)) e v.now.state) c.take_arguments.new.run.terms.items) (sym tables)
+    let evaluates : EvaluatesAll block (between v u a b) (evaluated_all (trees_of (operand_trees T c.args.operands predicate.arity)) e v.now.state) c.take_arguments.new.run.terms.items =
+    subst (λ t. EvaluatesAll block (between v u a b) (evaluated_all (trees_of (operand_trees t c.args.operands predicate.arity)) e v.now.state) c.take_arguments.new.run.terms.items) (sym tables)
     (c.in_ok-take_arguments.ensures.ok l.terms block e (first-slot-of w p s goal gs e k c.first_slot.result at is c.first_slot.ensures)
     (subst (λ t. AreReadable t block c.args.operands predicate.arity) tables readable) stands.entries.tables is.behind.slots) in
     let framed_run = c.frame_behind.new.self in

@@ -4,7 +4,7 @@ use Rattle.std.proofs.lemmas.Result.{IfOk-weaker}
 use Rattle.pi_terms.specs.Tree.{trees_of}
 use Rattle.pi_constraints.specs.Evaluation.{evaluated_all}
 use Rattle.pi_engine_code.specs.declared.code.Node.{Node}
-use Rattle.pi_engine_arenas.specs.Arenas.{view_of}
+use Rattle.pi_engine_arenas.specs.Arenas.{view_of, between}
 use Rattle.pi_engine_code.specs.Code.{tables_of}
 use Rattle.pi_engine_stands.specs.Here.{Block, AreReadable}
 use Rattle.pi_engine_stands.specs.Stands.{World, tables_in, world, Stands}
@@ -42,8 +42,8 @@ returns g c = IfOk-weaker c.try_clauses.result _ _ (λ _ so node l is_code has v
     (found-there w q predicate (ap (λ x. slice_get x.predicates.items q) is_code ∙ has)) in
     let readable : AreReadable T block c.args.operands predicate.arity =
     subst (AreReadable T block c.args.operands) it.it.arities (node-readable w p s goal gs e k (Node.Call q c.args.operands) at is node) in
-    let evaluates : EvaluatesAll block v u a b (evaluated_all (trees_of (operand_trees T c.args.operands predicate.arity)) e v.now.state) c.take_arguments.new.run.terms.items =
-    subst (λ t. EvaluatesAll block v u a b (evaluated_all (trees_of (operand_trees t c.args.operands predicate.arity)) e v.now.state) c.take_arguments.new.run.terms.items) (sym tables)
+    let evaluates : EvaluatesAll block (between v u a b) (evaluated_all (trees_of (operand_trees T c.args.operands predicate.arity)) e v.now.state) c.take_arguments.new.run.terms.items =
+    subst (λ t. EvaluatesAll block (between v u a b) (evaluated_all (trees_of (operand_trees t c.args.operands predicate.arity)) e v.now.state) c.take_arguments.new.run.terms.items) (sym tables)
     (c.in_ok-take_arguments.ensures.ok l.terms block e (first-slot-of w p s goal gs e k c.first_slot.result at is c.first_slot.ensures)
     (subst (λ t. AreReadable t block c.args.operands predicate.arity) tables readable) stands.entries.tables is.behind.slots) in
     let after = c.push_terms.new.self in

@@ -7,7 +7,7 @@ use Rattle.pi_constraints.specs.Unify.{unified}
 use Rattle.pi_unify.specs.Answers.{Answers}
 use Rattle.pi_engine_code.specs.declared.code.Node.{Node}
 use Rattle.pi_engine_arenas.specs.declared.run.Now.{Now}
-use Rattle.pi_engine_arenas.specs.Arenas.{view_of}
+use Rattle.pi_engine_arenas.specs.Arenas.{view_of, between}
 use Rattle.pi_engine_code.specs.Code.{tables_of, operand_tree}
 use Rattle.pi_engine_arenas.specs.Frames.{point_behind, slot_number}
 use Rattle.pi_engine_stands.specs.Here.{IsReadable}
@@ -41,14 +41,14 @@ returns g c = λ node l is_code view goal gs e k es at stands.
     let tables : T ≡ tables_of l.terms c.args.code.now = ap (tables_of l.terms) is_code in
     let readable = node-readable w p s goal gs e k (Node.Unify c.args.left c.args.right) at is node in
     let first : c.first_slot-first.result ≡ slot_number b.base b.first = first-slot-of w p s goal gs e k c.first_slot-first.result at is c.first_slot-first.ensures in
-    let one_is : Evaluates b v v1 a a1 x c.in_ok-a.a =
-    subst (λ t. Evaluates b v v1 a a1 (evaluated (operand_tree t c.args.left) e v.now.state) c.in_ok-a.a) (sym tables)
+    let one_is : Evaluates b (between v v1 a a1) x c.in_ok-a.a =
+    subst (λ t. Evaluates b (between v v1 a a1) (evaluated (operand_tree t c.args.left) e v.now.state) c.in_ok-a.a) (sym tables)
     (c.in_ok-a.ensures.ok l.terms b e first (subst (λ t. IsReadable t b c.args.left) tables readable.0) stands.entries.tables is.behind.slots) in
-    let two_is : Evaluates b v1 v2 a1 a2 (evaluated R x.slots v1.now.state) c.in_ok-b.b =
-    subst (λ t. Evaluates b v1 v2 a1 a2 (evaluated (operand_tree t c.args.right) x.slots v1.now.state) c.in_ok-b.b) (sym tables)
+    let two_is : Evaluates b (between v1 v2 a1 a2) (evaluated R x.slots v1.now.state) c.in_ok-b.b =
+    subst (λ t. Evaluates b (between v1 v2 a1 a2) (evaluated (operand_tree t c.args.right) x.slots v1.now.state) c.in_ok-b.b) (sym tables)
     (c.in_ok-b.ensures.ok l.terms b x.slots first (subst (λ t. IsReadable t b c.args.right) tables readable.1)
     (λ n q has. extends v v1 one_is.writes.keeps n q (stands.entries.tables n q has)) one_is.writes.holds) in
-    let both : Evaluates b v v2 a a2 y c.in_ok-b.b = both-evaluated b v v1 v2 a a1 a2 L R e c.in_ok-a.a c.in_ok-b.b one_is two_is in
+    let both : Evaluates b (between v v2 a a2) y c.in_ok-b.b = both-evaluated b v v1 v2 a a1 a2 L R e c.in_ok-a.a c.in_ok-b.b one_is two_is in
     let state : IsState v2.now.state = subst IsState (sym both.writes.state) (evaluated-state R x.slots x.state (evaluated-state L e v.now.state stands.entries.state)) in
     let here : IsTerm v2 c.in_ok-a.a x.tree = two_is.writes.keeps.terms c.in_ok-a.a x.tree one_is.term in
     let below = c.look-root.ensures.below in

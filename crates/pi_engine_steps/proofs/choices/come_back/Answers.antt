@@ -1,5 +1,5 @@
 use Rattle.std.proofs.Common.{◌≡◌, refl, subst}
-use Rattle.pi_engine_arenas.specs.Arenas.{view_of, ReturnsToNewest}
+use Rattle.pi_engine_arenas.specs.Arenas.{view_of, ReturnsToNewest, between}
 use Rattle.pi_terms.proofs.OptionLemmas.{one-some}
 use Rattle.pi_engine_steps.proofs.choices.come_back.Goals as goal
 
@@ -9,7 +9,7 @@ returns-in-Some-clause-some g c = λ x at.
     let run = c.args.run.now in
     let entry = c.in-Some.entry.now in
     let same : entry ≡ x = one-some _ entry x c.in-Some.ensures.some at in
-    let returns : ReturnsToNewest g.S.StateStore.order (seen run.store) (seen c.undo.new.self) (view_of run.arenas) (view_of c.come_back.new.self) entry.back =
+    let returns : ReturnsToNewest g.S.StateStore.order (between (seen run.store) (seen c.undo.new.self) (view_of run.arenas) (view_of c.come_back.new.self)) entry.back =
     record {
       entry = entry;
       newest_is = c.in-Some.ensures.some;
@@ -25,4 +25,4 @@ returns-in-Some-clause-some g c = λ x at.
       };
       returns = c.undo.ensures;
     } in
-    subst (λ e. ReturnsToNewest g.S.StateStore.order (seen run.store) (seen c.undo.new.self) (view_of run.arenas) (view_of c.come_back.new.self) e.back) same returns
+    subst (λ e. ReturnsToNewest g.S.StateStore.order (between (seen run.store) (seen c.undo.new.self) (view_of run.arenas) (view_of c.come_back.new.self)) e.back) same returns

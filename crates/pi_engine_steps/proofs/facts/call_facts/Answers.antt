@@ -12,6 +12,7 @@ use Rattle.pi_engine_stands.specs.Tries.{TriesFacts}
 use Rattle.pi_engine_arenas.specs.declared.run.Now.{Now}
 use Rattle.pi_engine_steps.proofs.FactsTried.{there-of, by-facts, fits-so, fits-not, call-fails, pred-at, fits-there}
 use Rattle.pi_engine_steps.proofs.facts.call_facts.Goals as goal
+use Rattle.pi_engine_stands.specs.Changes.{change}
 
 pub returns-then-branch : goal.returns-then-branch
 returns-then-branch g c = IfOk-weaker c.try_facts.result _ _ (λ _ so l is_code has facts ts cs s k es is args same.
@@ -25,9 +26,9 @@ returns-then-branch g c = IfOk-weaker c.try_facts.result _ _ (λ _ so l is_code 
     let w : World _ = world l (seen run.store) order (view_of run.arenas) in
     let after : World _ = world l (seen end.store) order (view_of end.arenas) in
     let there : slice_get l.code.predicates.items call.predicate ≡ Some predicate = ap (λ p. slice_get p.predicates.items call.predicate) is_code ∙ has in
-    let tries : TriesFacts w after call.predicate call.base call.frame predicate.first false end.now =
-    subst (λ r. TriesFacts (world l (seen r) order (view_of run.arenas)) after call.predicate call.base call.frame predicate.first false end.now) c.fits.ensures.store
-    (subst (λ r. TriesFacts (world l (seen one_run.store) order (view_of r)) after call.predicate call.base call.frame predicate.first false end.now) c.fits.ensures.arenas (so l is_code has)) in
+    let tries : TriesFacts call predicate.first false (change w after end.now) =
+    subst (λ r. TriesFacts call predicate.first false (change (world l (seen r) order (view_of run.arenas)) after end.now)) c.fits.ensures.store
+    (subst (λ r. TriesFacts call predicate.first false (change (world l (seen one_run.store) order (view_of r)) after end.now)) c.fits.ensures.arenas (so l is_code has)) in
     by-facts after end.now is.call.call.pred.index ts cs (back_to [] s k) es c.in_ok-fits.field-0
     (sym (there-of w call.predicate call.base call.frame predicate.first (record { function = false; args = ts }) cs s k es false predicate is there).facts ∙ facts)
     (fits-there w call.predicate call.base call.frame predicate.first ts cs s k es predicate c.args.code.now c.in_ok-fits.field-0 is is_code there args same c.in_ok-fits.ensures.tells)

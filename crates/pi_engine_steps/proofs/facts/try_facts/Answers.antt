@@ -7,9 +7,10 @@ use Rattle.pi_engine_arenas.specs.Arenas.{view_of}
 use Rattle.pi_engine_stands.specs.Here.{HoldsArguments}
 use Rattle.pi_engine_stands.specs.Stands.{World, world}
 use Rattle.pi_engine_stands.proofs.CallsStay.{call-stays}
-use Rattle.pi_engine_steps.specs.Facts.{TriesSome}
+use Rattle.pi_engine_steps.specs.Facts.{TriesSome, asking}
 use Rattle.pi_engine_steps.proofs.FactsTried.{there-of, pred-at, source-pred}
 use Rattle.pi_engine_steps.proofs.facts.try_facts.Goals as goal
+use Rattle.pi_engine_stands.specs.Changes.{change}
 
 pub returns : goal.returns
 returns g c = IfOk-weaker c.try_some.result _ _ (λ _ so l is_code has ts cs s k es is args same.
@@ -31,7 +32,7 @@ returns g c = IfOk-weaker c.try_some.result _ _ (λ _ so l is_code has ts cs s k
     let clauses : is.call.call.pred.clauses ≡ map clause_tree c.as_slice-clauses.result.now = sym (ap (λ p. p.clauses) pred_is) ∙ ap (map clause_tree) (search rules) in
     let arity = (there-of w call.predicate call.base call.frame c.args.from (record { function = false; args = ts }) cs s k es again predicate is there).arity in
     let stays = c.asked_of.ensures.stays in
-    let tries : TriesSome (world l (seen one_run.store) order (view_of run.arenas)) after call.predicate call.base call.frame c.args.from predicate c.as_slice-clauses.result.now c.in_ok-asked.asked again end.now =
-    subst (λ r. TriesSome (world l (seen one_run.store) order (view_of r)) after call.predicate call.base call.frame c.args.from predicate c.as_slice-clauses.result.now c.in_ok-asked.asked again end.now) c.asked_of.ensures.arenas (so l is_code) in
+    let tries : TriesSome call c.args.from (asking predicate c.as_slice-clauses.result.now c.in_ok-asked.asked) again (change (world l (seen one_run.store) order (view_of run.arenas)) after end.now) =
+    subst (λ r. TriesSome call c.args.from (asking predicate c.as_slice-clauses.result.now c.in_ok-asked.asked) again (change (world l (seen one_run.store) order (view_of r)) after end.now)) c.asked_of.ensures.arenas (so l is_code) in
     tries is.call.call.pred ts cs s k es (call-stays w (seen one_run.store) call.predicate call.base call.frame c.args.from (record { function = false; args = ts }) cs s k es again stays is) is.call.call.is_pred there clauses
     (c.in_ok-asked.ensures.term ts (subst (λ n. HoldsArguments (seen run.store).now.terms run.arenas.blocks.slots call.base n ts) (sym arity) args)) (same ∙ sym stays.state)) c.try_some.ensures

@@ -3,7 +3,7 @@ use Rattle.std.specs.Prelude.{slice_get, option_copied}
 use Rattle.std.proofs.lemmas.Result.{IfOk-weaker}
 use Rattle.pi_engine_arenas.specs.Arenas.{view_of}
 use Rattle.pi_engine_stands.specs.Stands.{World, world}
-use Rattle.pi_engine_stands.specs.Goes.{TicksUnless}
+use Rattle.pi_engine_stands.specs.Goes.{TicksUnless, counting}
 use Rattle.pi_engine_stands.proofs.GoalsGo.{apply-there, apply-found, no-predicate, call-counted, call-refused}
 use Rattle.pi_engine_stands.proofs.StopsGo.{so-at-err, call-stops}
 use Rattle.pi_engine_stands.proofs.RulesTried.{IsFound, found-there}
@@ -25,7 +25,7 @@ returns-then-not-tick_call-clause-goes g c = λ node l is_code v fits names d is
     let known : IsFound w c.args.predicate called = found-there w c.args.predicate called (ap (λ r. slice_get r.predicates.items c.args.predicate) is_code ∙ at) in
     call-refused w c.args.point c.args.step c.tick_call.new.now d v names called.is_quiet c.args.mode c.args.budget.now c.tick_call.new.budget run.now is
     (apply-there w c.args.point c.args.step d v names c.args.predicate c.args.operands c.args.into called is node known)
-    (subst (TicksUnless called.is_quiet c.args.mode c.args.budget.now c.tick_call.new.budget run.now c.tick_call.new.now) c.if-not-tick_call.true c.tick_call.ensures.ticks)
+    (subst (TicksUnless called.is_quiet (counting c.args.mode c.args.budget.now c.tick_call.new.budget) run.now c.tick_call.new.now) c.if-not-tick_call.true c.tick_call.ensures.ticks)
 
 pub returns-clause-goes : goal.returns-clause-goes
 returns-clause-goes g c = IfOk-weaker c.apply.result _ _ (λ _ so node l is_code v fits names d is.
@@ -39,7 +39,7 @@ returns-clause-goes g c = IfOk-weaker c.apply.result _ _ (λ _ so node l is_code
     call-counted w after c.args.point c.args.step end.now d v names called.is_quiet c.args.mode c.args.budget.now c.tick_call.new.budget run.now c.tick_call.new.now refl is
     (apply-there w c.args.point c.args.step d v names c.args.predicate c.args.operands c.args.into called is node known)
     (so c.args.into node l is_code at)
-    (subst (TicksUnless called.is_quiet c.args.mode c.args.budget.now c.tick_call.new.budget run.now c.tick_call.new.now) c.if-not-tick_call.false c.tick_call.ensures.ticks)) c.apply.ensures
+    (subst (TicksUnless called.is_quiet (counting c.args.mode c.args.budget.now c.tick_call.new.budget) run.now c.tick_call.new.now) c.if-not-tick_call.false c.tick_call.ensures.ticks)) c.apply.ensures
 
 pub returns-clause-stops : goal.returns-clause-stops
 returns-clause-stops g c = so-at-err _ c.apply.result (λ node l is_code v fits names d is.
@@ -50,4 +50,4 @@ returns-clause-stops g c = so-at-err _ c.apply.result (λ node l is_code v fits 
     let known : IsFound w c.args.predicate called = found-there w c.args.predicate called (ap (λ r. slice_get r.predicates.items c.args.predicate) is_code ∙ at) in
     call-stops w c.args.point c.args.step d v names called.is_quiet c.args.mode c.args.budget.now c.tick_call.new.budget run.now c.tick_call.new.now is
     (apply-there w c.args.point c.args.step d v names c.args.predicate c.args.operands c.args.into called is node known)
-    (subst (TicksUnless called.is_quiet c.args.mode c.args.budget.now c.tick_call.new.budget run.now c.tick_call.new.now) c.if-not-tick_call.false c.tick_call.ensures.ticks))
+    (subst (TicksUnless called.is_quiet (counting c.args.mode c.args.budget.now c.tick_call.new.budget) run.now c.tick_call.new.now) c.if-not-tick_call.false c.tick_call.ensures.ticks))

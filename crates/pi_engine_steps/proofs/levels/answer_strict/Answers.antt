@@ -8,6 +8,7 @@ use Rattle.pi_engine_stands.specs.Tries.{TakesGuarded}
 use Rattle.pi_engine_stands.proofs.CatchAnswers.{LevelAt, level-at}
 use Rattle.pi_engine_stands.proofs.LevelsAnswer.{guard-answers, no-value-answer}
 use Rattle.pi_engine_steps.proofs.levels.answer_strict.Goals as goal
+use Rattle.pi_engine_stands.specs.Changes.{change}
 
 pub returns-in-Once : goal.returns-in-Once
 returns-in-Once g c = λ l is_code is named some. c.leave_once.ensures l c.in-Once.field-0 is (named ∙ ap Kind.Strict c.in-Once.is)
@@ -27,11 +28,11 @@ returns-in-Guard g c = IfOk-weaker c.take_guarded.result _ _ (λ _ so l is_code 
     let b = view_of c.take_guarded.new.run.arenas in
     let it : LevelAt w c.args.level c.args.back = level-at w c.args.level c.args.back is in
     guard-answers w u b it.i c.in-Guard.predicate c.in-Guard.rule it.x c.args.back c.take_guarded.new.run.now p es view names e k stands none last balanced it.level it.at it.back_is (named ∙ ap Kind.Strict c.in-Guard.is)
-    (subst (λ n. TakesGuarded w (world l u order b) n c.args.back c.in-Guard.predicate c.in-Guard.rule c.take_guarded.new.run.now) it.is (so l is_code))) c.take_guarded.ensures
+    (subst (λ n. TakesGuarded n c.args.back c.in-Guard.predicate c.in-Guard.rule (change w (world l u order b) c.take_guarded.new.run.now)) it.is (so l is_code))) c.take_guarded.ensures
 
 pub returns-in-Collect : goal.returns-in-Collect
 returns-in-Collect g c = IfOk-weaker c.add_value.result _ _ (λ _ so l is_code is named some.
-    so l c.in-Collect.field-1 is_code (subst (λ n. IsLevel (view_of c.args.run.now.arenas) n c.args.back) (sym is.is_open) is) (named ∙ ap Kind.Strict c.in-Collect.is)) c.add_value.ensures
+    so l is_code c.in-Collect.field-1 (subst (λ n. IsLevel (view_of c.args.run.now.arenas) n c.args.back) (sym is.is_open) is) (named ∙ ap Kind.Strict c.in-Collect.is)) c.add_value.ensures
 
 pub returns-in-Count : goal.returns-in-Count
 returns-in-Count g c = IfOk-weaker c.count_answer.result _ _ (λ _ so l is_code is named some. so l c.args.back is (named ∙ ap Kind.Strict c.in-Count.is)) c.count_answer.ensures

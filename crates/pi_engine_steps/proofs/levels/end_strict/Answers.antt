@@ -24,7 +24,7 @@ pub returns-in-Guard : goal.returns-in-Guard
 returns-in-Guard g c = IfOk-weaker c.end_guard.result _ _ (λ _ so l is_code named. so l is_code (named ∙ ap Kind.Strict c.in-Guard.is)) c.end_guard.ensures
 
 pub returns-in-Apply : goal.returns-in-Apply
-returns-in-Apply g c = IfOk-weaker c.no_value.result _ _ (λ _ so l is_code named. so l c.in-Apply.field-1 is_code (named ∙ ap Kind.Strict c.in-Apply.is)) c.no_value.ensures
+returns-in-Apply g c = IfOk-weaker c.no_value.result _ _ (λ _ so l is_code named. so l is_code c.in-Apply.field-1 (named ∙ ap Kind.Strict c.in-Apply.is)) c.no_value.ensures
 
 pub returns-in-Collect : goal.returns-in-Collect
 returns-in-Collect g c = IfOk-weaker c.give_list.result _ _ (λ _ so l is_code named. so l is_code (named ∙ ap Kind.Strict c.in-Collect.is)) c.give_list.ensures

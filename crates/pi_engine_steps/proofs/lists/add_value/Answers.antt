@@ -13,14 +13,14 @@ use Rattle.pi_engine_stands.proofs.CollectsStand.{CollectedAs, collect-answers, 
 use Rattle.pi_engine_steps.proofs.lists.add_value.Goals as goal
 
 pub returns-in_default : goal.returns-in_default
-returns-in_default g c = λ l first is_code is named view names p e k es stands none last balanced.
+returns-in_default g c = λ l is_code first is named view names p e k es stands none last balanced.
     let w = world l (g.S.StateStore.seen c.args.run.now.store) g.S.StateStore.order (view_of c.args.run.now.arenas) in
     let it : LevelAt w w.arenas.level c.args.back = level-at w w.arenas.level c.args.back is in
     let node = no-other-node w it.i c.args.place first c.step-step.result c.args.code.now it.x es stands.entries balanced it.level it.at (ap (λ q. q.kind) it.back_is ∙ named) is_code c.step-step.ensures.is in
     absurd (c.in_default.not-Collect node.0 node.1 node.2)
 
 pub returns : goal.returns
-returns g c = λ l first is_code is named view names p e k es stands none last balanced.
+returns g c = λ l is_code first is named view names p e k es stands none last balanced.
     let v = g.S.StateStore.seen c.args.run.now.store in
     let u = g.S.StateStore.seen c.slot_value.new.run.store in
     let a = view_of c.args.run.now.arenas in
@@ -37,7 +37,7 @@ returns g c = λ l first is_code is named view names p e k es stands none last b
     stands none last balanced it.level it.at (ap (λ q. q.kind) it.back_is ∙ named) is_code c.step-step.ensures.is c.in-Collect.is begins c.slot_at-slot.ensures c.in_ok-term.ensures.ok tells
 
 pub returns-in_default-2 : goal.returns-in_default-2
-returns-in_default-2 g c = λ l first is_code is named view names p e k es stands none last balanced.
+returns-in_default-2 g c = λ l is_code first is named view names p e k es stands none last balanced.
     let v = g.S.StateStore.seen c.args.run.now.store in
     let u = g.S.StateStore.seen c.slot_value.new.run.store in
     let a = view_of c.args.run.now.arenas in

@@ -2,7 +2,7 @@ use Rattle.std.proofs.Common.{◌≡◌, refl, sym, ap, subst}
 use Rattle.std.proofs.lemmas.Result.{IfOk-weaker}
 use Rattle.pi_constraints.specs.Evaluation.{evaluated}
 use Rattle.pi_engine_code.specs.declared.code.Node.{Node}
-use Rattle.pi_engine_arenas.specs.Arenas.{view_of}
+use Rattle.pi_engine_arenas.specs.Arenas.{view_of, between}
 use Rattle.pi_engine_code.specs.Code.{tables_of, operand_tree}
 use Rattle.pi_engine_stands.specs.Here.{IsReadable}
 use Rattle.pi_engine_stands.specs.Stands.{tables_in, world}
@@ -30,7 +30,7 @@ returns g c = IfOk-weaker c.enter_level.result _ _ (λ _ so node l is_code view 
     let tables : T ≡ tables_of l.terms c.args.code.now = ap (tables_of l.terms) is_code in
     let readable = node-readable w p s goal gs e k (Node.Catch c.args.ball) at is node in
     let first : c.first_slot.result ≡ slot_number b.base b.first = first-slot-of w p s goal gs e k c.first_slot.result at is c.first_slot.ensures in
-    let one : Evaluates b v v1 a a1 (evaluated (operand_tree T c.args.ball) e v.now.state) q =
-    subst (λ t. Evaluates b v v1 a a1 (evaluated (operand_tree t c.args.ball) e v.now.state) q) (sym tables)
+    let one : Evaluates b (between v v1 a a1) (evaluated (operand_tree T c.args.ball) e v.now.state) q =
+    subst (λ t. Evaluates b (between v v1 a a1) (evaluated (operand_tree t c.args.ball) e v.now.state) q) (sym tables)
     (c.in_ok-_wanted.ensures.ok l.terms b e first (subst (λ t. IsReadable t b c.args.ball) tables readable) stands.entries.tables is.behind.slots) in
     catch-enters w after v1 a1 p s c.args.ball q c.enter_level.new.run.now view goal gs e k es node at stands readable one (so refl l is_code)) c.enter_level.ensures.catches

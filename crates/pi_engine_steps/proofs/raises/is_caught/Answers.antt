@@ -1,6 +1,6 @@
 use Rattle.std.proofs.Common.{◌≡◌, ◌∙◌, sym, ap, subst}
 use Rattle.pi_constraints.specs.Evaluation.{evaluated}
-use Rattle.pi_engine_arenas.specs.Arenas.{view_of}
+use Rattle.pi_engine_arenas.specs.Arenas.{view_of, between}
 use Rattle.pi_engine_code.specs.Code.{tables_of, operand_tree}
 use Rattle.pi_engine_stands.specs.Here.{IsReadable, NodeIsReadable}
 use Rattle.pi_engine_stands.specs.Stands.{tables_in, world, block_at}
@@ -38,8 +38,8 @@ returns g c = both-ok c.unify.result _ _ _ (λ one unifies sound l is_code place
     subst (λ t. IsReadable t b operand) tables_are (subst (λ n. NodeIsReadable (tables_in l) b n) c.in-Catch.is (own-block w back.base place back.frame _ e k s own at).readable) in
     let first : c.first_slot.result ≡ slot_number b.base b.first =
     own-slots w back.base place back.frame c.first_slot.result _ e k s own at (c.first_slot.ensures ∙ ap (λ p. slot_number p.base s.first_slot) c.behind_level.ensures) in
-    let seen : Evaluates b v v1 a a1 (evaluated wanted e v.now.state) c.in_ok-wanted.wanted =
-    subst (λ t. Evaluates b v v1 a a1 (evaluated t e v.now.state) c.in_ok-wanted.wanted) (sym wanted_is) (c.in_ok-wanted.ensures.ok l.terms b e first readable tables own.behind.slots) in
+    let seen : Evaluates b (between v v1 a a1) (evaluated wanted e v.now.state) c.in_ok-wanted.wanted =
+    subst (λ t. Evaluates b (between v v1 a a1) (evaluated t e v.now.state) c.in_ok-wanted.wanted) (sym wanted_is) (c.in_ok-wanted.ensures.ok l.terms b e first readable tables own.behind.slots) in
     caught-told b v v1 v2 u a a1 wanted c.args.ball.now e c.in_ok-wanted.wanted c.in_ok-raised.raised one again state seen c.in_ok-raised.ensures.ok c.look-root.ensures.below c.unify.ensures.keeps
     unifies sound)
     c.unify.ensures.unifies c.unify.ensures.state

@@ -11,19 +11,19 @@ use Rattle.pi_engine_stands.proofs.MissingStand.{no-other-node, source-missing, 
 use Rattle.pi_engine_steps.proofs.raises.no_value.Goals as goal
 
 pub returns-in_default : goal.returns-in_default
-returns-in_default g c = λ l caller is_code named s b es it.
+returns-in_default g c = λ l is_code caller named s b es it.
     let w = world l (g.S.StateStore.seen c.args.run.now.store) g.S.StateStore.order (view_of c.args.run.now.arenas) in
     let node = no-other-node w c.args.back c.args.place caller c.args.code.now c.step-step.result s b es named is_code c.step-step.ensures.is it in
     absurd (c.in_default.not-Apply node.0 node.1 node.2 node.3)
 
 pub returns-in_default-source : goal.returns-in_default-source
-returns-in_default-source g c = λ l caller is_code named s b es it.
+returns-in_default-source g c = λ l is_code caller named s b es it.
     let w = world l (g.S.StateStore.seen c.args.run.now.store) g.S.StateStore.order (view_of c.args.run.now.arenas) in
     let node = no-other-node w c.args.back c.args.place caller c.args.code.now c.step-step.result s b es named is_code c.step-step.ensures.is it in
     absurd (source-missing c.step-step.result.node node.0 node.1 node.2 c.in-Apply.predicate c.in-Apply.field-1 c.in-Apply.field-2 (preds_of c.args.code.now) node.3 c.in-Apply.is node.4 (sym c.source.ensures ∙ ap option_copied c.in_default-source.is))
 
 pub returns : goal.returns
-returns g c = λ l caller is_code named s b es it.
+returns g c = λ l is_code caller named s b es it.
     let seen = g.S.StateStore.seen in
     let v = seen c.args.run.now.store in
     let u = seen c.put_comp.new.self in

@@ -3,7 +3,7 @@ use Rattle.pi_constraints.specs.Evaluation.{evaluated}
 use Rattle.pi_constraints.specs.State.{IsState, bindings}
 use Rattle.pi_constraints.specs.Value.{value}
 use Rattle.pi_engine_code.specs.declared.code.Node.{Node}
-use Rattle.pi_engine_arenas.specs.Arenas.{view_of}
+use Rattle.pi_engine_arenas.specs.Arenas.{view_of, between}
 use Rattle.pi_engine_code.specs.Code.{tables_of, operand_tree}
 use Rattle.pi_engine_stands.specs.Here.{IsReadable}
 use Rattle.pi_engine_stands.specs.Makes.{raised_for}
@@ -32,8 +32,8 @@ returns g c = λ node l is_code view goal gs e k es at stands.
     let tables : T ≡ tables_of l.terms c.args.code.now = ap (tables_of l.terms) is_code in
     let readable = node-readable w p s goal gs e k (Node.Throw c.args.operand) at is node in
     let first : c.first_slot.result ≡ slot_number b.base b.first = first-slot-of w p s goal gs e k c.first_slot.result at is c.first_slot.ensures in
-    let one : Evaluates b v v1 a a1 x q =
-    subst (λ t. Evaluates b v v1 a a1 (evaluated (operand_tree t c.args.operand) e v.now.state) q) (sym tables)
+    let one : Evaluates b (between v v1 a a1) x q =
+    subst (λ t. Evaluates b (between v v1 a a1) (evaluated (operand_tree t c.args.operand) e v.now.state) q) (sym tables)
     (c.in_ok-term.ensures.ok l.terms b e first (subst (λ t. IsReadable t b c.args.operand) tables readable) stands.entries.tables is.behind.slots) in
     let state : IsState v1.now.state = subst IsState (sym one.writes.state) (evaluated-state (operand_tree T c.args.operand) e v.now.state stands.entries.state) in
     let raised = subst (λ r. c.in_ok-ball.ball ≡ raised_for (value (bindings r) x.tree)) one.writes.state (c.in_ok-ball.ensures x.tree one.term state.acyclic) in

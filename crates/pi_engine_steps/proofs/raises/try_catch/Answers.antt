@@ -9,13 +9,14 @@ use Rattle.pi_engine_stands.proofs.BackStand.{CameBack, came-back, drops-newest}
 use Rattle.pi_engine_stands.proofs.CaughtStand.{caught, next-caught, next-raised, not-found}
 use Rattle.pi_terms.proofs.OptionLemmas.{none-some, one-some}
 use Rattle.pi_engine_steps.proofs.raises.try_catch.Goals as goal
+use Rattle.pi_engine_stands.specs.Changes.{change}
 
 pub returns-in_default-into_ball : goal.returns-in_default-into_ball
-returns-in_default-into_ball g c = λ l x is_code at named ball es raising stands balanced.
+returns-in_default-into_ball g c = λ l is_code x at named ball es raising stands balanced.
     absurd (none-some c.in_default-into_ball.is (c.into_ball.ensures.raised ball (c.replace-now.ensures.value ∙ c.come_back.ensures.now ∙ raising)))
 
 pub returns-then-branch : goal.returns-then-branch
-returns-then-branch g c = λ l x is_code at named ball es raising stands balanced.
+returns-then-branch g c = λ l is_code x at named ball es raising stands balanced.
     let seen = g.S.StateStore.seen in
     let order = g.S.StateStore.order in
     let back = c.in-Some.entry.now.back in
@@ -30,7 +31,7 @@ returns-then-branch g c = λ l x is_code at named ball es raising stands balance
     let came : CameBack (world l v1 order a1) back es = came-back w v1 a1 back es stands took in
     let kind = ap (λ r. r.kind) (sym took.back_is ∙ ap (λ r. r.back) (one-some _ took.entry x took.newest_is at)) ∙ named in
     let same : c.in-Some-into_ball.ball ≡ ball = one-some c.into_ball.result c.in-Some-into_ball.ball ball c.in-Some-into_ball.is (c.into_ball.ensures.raised ball (c.replace-now.ensures.value ∙ c.come_back.ensures.now ∙ raising)) in
-    let tells = subst (λ t. TellsCaught (world l v1 order a2) (world l u order d) back c.step.result t c.in_ok-is_caught.field-0) same (c.in_ok-is_caught.ensures l is_code) in
+    let tells = subst (λ t. TellsCaught back c.step.result t c.in_ok-is_caught.field-0 (change (world l v1 order a2) (world l u order d) Now.Failing)) same (c.in_ok-is_caught.ensures l is_code) in
     subst (λ r. ComesTo (world l u order d) c.one_goal.result (raise_step ball r)) (sym came.is)
     (caught (world l v1 order a1) a2 u d back c.args.place c.child.result c.args.code.now c.step.result ball c.in_ok-is_caught.field-0 c.one_goal.result came.waits came.below kind is_code c.step.ensures.is
     (λ yes. c.child.ensures) came.back_at
@@ -38,7 +39,7 @@ returns-then-branch g c = λ l x is_code at named ball es raising stands balance
     tells (next-caught c.in_ok-is_caught.field-0 c.one_goal.result ball c.child.result back.base back.frame c.if-branch.true c.one_goal.ensures))
 
 pub returns : goal.returns
-returns g c = λ l x is_code at named ball es raising stands balanced.
+returns g c = λ l is_code x at named ball es raising stands balanced.
     let seen = g.S.StateStore.seen in
     let order = g.S.StateStore.order in
     let back = c.in-Some.entry.now.back in
@@ -53,7 +54,7 @@ returns g c = λ l x is_code at named ball es raising stands balanced.
     let came : CameBack (world l v1 order a1) back es = came-back w v1 a1 back es stands took in
     let kind = ap (λ r. r.kind) (sym took.back_is ∙ ap (λ r. r.back) (one-some _ took.entry x took.newest_is at)) ∙ named in
     let same : c.in-Some-into_ball.ball ≡ ball = one-some c.into_ball.result c.in-Some-into_ball.ball ball c.in-Some-into_ball.is (c.into_ball.ensures.raised ball (c.replace-now.ensures.value ∙ c.come_back.ensures.now ∙ raising)) in
-    let tells = subst (λ t. TellsCaught (world l v1 order a2) (world l u order d) back c.step.result t c.in_ok-is_caught.field-0) same (c.in_ok-is_caught.ensures l is_code) in
+    let tells = subst (λ t. TellsCaught back c.step.result t c.in_ok-is_caught.field-0 (change (world l v1 order a2) (world l u order d) Now.Failing)) same (c.in_ok-is_caught.ensures l is_code) in
     subst (λ r. ComesTo (world l u order d) (Now.Raising c.in-Some-into_ball.ball) (raise_step ball r)) (sym came.is)
     (caught (world l v1 order a1) a2 u d back c.args.place 0 c.args.code.now c.step.result ball c.in_ok-is_caught.field-0 (Now.Raising c.in-Some-into_ball.ball) came.waits came.below kind is_code c.step.ensures.is
     (λ yes. absurd (not-found c.in_ok-is_caught.field-0 c.if-branch.false yes)) came.back_at

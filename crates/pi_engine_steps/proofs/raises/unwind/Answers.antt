@@ -13,7 +13,7 @@ returns-in_default g c = λ l is_code ball es raising stands balanced.
     raise-none (world l (g.S.StateStore.seen c.end_raised.new.run.store) g.S.StateStore.order (view_of c.end_raised.new.run.arenas)) c.end_raised.new.run.now ball es (nothing-there w es stands c.in_default.ensures.none) (c.end_raised.ensures ball raising)
 
 pub returns-in-Catch : goal.returns-in-Catch
-returns-in-Catch g c = IfOk-weaker c.try_catch.result _ _ (λ _ so l is_code. so l c.in-Some.entry.now is_code c.in-Some.ensures.some c.in-Catch.is) c.try_catch.ensures
+returns-in-Catch g c = IfOk-weaker c.try_catch.result _ _ (λ _ so l is_code. so l is_code c.in-Some.entry.now c.in-Some.ensures.some c.in-Catch.is) c.try_catch.ensures
 
 pub returns-in-Exit : goal.returns-in-Exit
 returns-in-Exit g c = λ l is_code ball es raising stands balanced. c.pass_left.ensures l c.in-Exit.is c.in-Some.entry.now c.in-Some.ensures.some refl ball es raising stands balanced

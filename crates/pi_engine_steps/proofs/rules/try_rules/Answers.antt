@@ -11,6 +11,7 @@ use Rattle.pi_engine_stands.proofs.GuardsTaken.{none-found}
 use Rattle.pi_engine_stands.proofs.RulesTried.{Trying, IsFound, found-there, trying-found, trying-passes, trying-applies, trying-ends}
 use Rattle.pi_engine_steps.proofs.rules.try_rules.Goals.{in-Some+in_ok-matches+else-branch, in_default, then-is_again, else-is_again}
 use Rattle.pi_engine_steps.proofs.rules.try_rules.Goals as goal
+use Rattle.pi_engine_stands.specs.Changes.{change}
 
 pub loop-number-init : goal.loop-number-init
 loop-number-init g c = λ l is_code has called cs s k es is args same. record { rest = cs; is = is; args = args; now = same; same = refl }
@@ -32,7 +33,7 @@ returns-then-branch g c = IfOk-weaker c.apply.result _ _ (λ _ so l is_code has 
     let r = trying-applies w (seen after.store) (view_of after.arenas) call.predicate call.base call.frame number called s k es again (try_rules called cs (back_to [] s k) es) predicate rule
     (c.loop-number.invariant l is_code has called cs s k es is args same)
     (found-there w call.predicate predicate (ap (λ p. slice_get p.predicates.items call.predicate) is_code ∙ has)) c.loop-number-test.true found
-    (subst (MatchesHead w (world l (seen after.store) order (view_of after.arenas)) call.predicate call.base call.frame number predicate.arity rule) c.if-branch.true (c.in_ok-matches.ensures l is_code)) in
+    (subst (λ found. MatchesHead call number predicate.arity rule found (change w (world l (seen after.store) order (view_of after.arenas)) Now.Failing)) c.if-branch.true (c.in_ok-matches.ensures l is_code)) in
     subst (Stands (world l (seen end.store) order (view_of end.arenas)) end.now) (sym r.0.same)
     (so l called r.0.clause r.0.behind s k es r.0.slots r.0.applies r.1)) c.apply.ensures
 
@@ -54,7 +55,7 @@ loop-number-preserved g c = λ l is_code has called cs s k es is args same.
           let found : slice_get l.code.rules.items number ≡ Some rule = ap (λ r. slice_get r.rules.items number) is_code ∙ sym c.rule.ensures ∙ ap option_copied x.in-Some.is in
           subst (λ r. Trying (world l (seen r.store) order (view_of r.arenas)) call.predicate call.base call.frame (number + 1) called s k es again (try_rules called cs (back_to [] s k) es)) (sym x.run-is)
           (trying-passes w (seen after.store) (view_of after.arenas) call.predicate call.base call.frame number called s k es again (try_rules called cs (back_to [] s k) es) predicate rule trying known c.loop-number-test.true found
-          (subst (MatchesHead w (world l (seen after.store) order (view_of after.arenas)) call.predicate call.base call.frame number predicate.arity rule) x.if-branch.false (x.in_ok-matches.ensures l is_code))))
+          (subst (λ found. MatchesHead call number predicate.arity rule found (change w (world l (seen after.store) order (view_of after.arenas)) Now.Failing)) x.if-branch.false (x.in_ok-matches.ensures l is_code))))
       | in_default x ↦ (let rule = trying-found w call.predicate call.base call.frame number called s k es again (try_rules called cs (back_to [] s k) es) predicate trying known c.loop-number-test.true in
           none-found (option_copied c.rule.result) rule.0 (ap option_copied x.in_default.is) (c.rule.ensures ∙ ap (λ r. slice_get r.rules.items number) (sym is_code) ∙ rule.1))
     ]

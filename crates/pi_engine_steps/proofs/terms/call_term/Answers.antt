@@ -12,7 +12,7 @@ use Rattle.pi_constraints.specs.declared.store.Ref.{Ref}
 use Rattle.pi_engine_code.specs.declared.code.Node.{Node}
 use Rattle.pi_engine_code.specs.Code.{tables_of, operand_trees, preds_of}
 use Rattle.pi_engine_code.specs.Callables.{place_in}
-use Rattle.pi_engine_arenas.specs.Arenas.{view_of}
+use Rattle.pi_engine_arenas.specs.Arenas.{view_of, between}
 use Rattle.pi_engine_stands.specs.Here.{Block, AreReadable}
 use Rattle.pi_engine_stands.specs.Stands.{World, tables_in, world}
 use Rattle.pi_engine_stands.specs.Evaluates.{EvaluatesAll, with_blocks}
@@ -43,8 +43,8 @@ returns-in_default g c = λ node l is_code view goal gs e k es at stands.
     let rs : List Ref = c.take_arguments.new.run.terms.items in
     let tables : T ≡ tables_of l.terms c.args.code.now = ap (tables_of l.terms) is_code in
     let readable : AreReadable T block operands arity = (node-readable w p s goal gs e k (Node.CallTerm operands arity) at is node).0 in
-    let evaluates : EvaluatesAll block v u a b (term_arguments w operands arity e) rs =
-    subst (λ t. EvaluatesAll block v u a b (evaluated_all (trees_of (operand_trees t operands arity)) e v.now.state) rs) (sym tables)
+    let evaluates : EvaluatesAll block (between v u a b) (term_arguments w operands arity e) rs =
+    subst (λ t. EvaluatesAll block (between v u a b) (evaluated_all (trees_of (operand_trees t operands arity)) e v.now.state) rs) (sym tables)
     (c.in_ok-take_arguments.ensures.ok l.terms block e (first-slot-of w p s goal gs e k c.first_slot.result at is c.first_slot.ensures) (subst (λ t. AreReadable t block operands arity) tables readable) stands.entries.tables is.behind.slots) in
     let calls : Calls u c.in_ok-name.field-0 rs c.take_called.new.args.items = subst (λ qs. Calls u c.in_ok-name.field-0 qs c.take_called.new.args.items) c.deref.ensures.value c.in_ok-name.ensures.called in
     let first : (q : Ref) → slice_get rs 0 ≡ Some q → c.first_of.result ≡ q = subst (λ (qs : List Ref). (q : Ref) → slice_get qs 0 ≡ Some q → c.first_of.result ≡ q) c.deref-in_default.ensures.value c.first_of.ensures in
@@ -69,8 +69,8 @@ returns-in_default-goal_named g c = λ node l is_code view goal gs e k es at sta
     let rs : List Ref = c.take_arguments.new.run.terms.items in
     let tables : T ≡ tables_of l.terms c.args.code.now = ap (tables_of l.terms) is_code in
     let readable : AreReadable T block operands arity = (node-readable w p s goal gs e k (Node.CallTerm operands arity) at is node).0 in
-    let evaluates : EvaluatesAll block v u a b (term_arguments w operands arity e) rs =
-    subst (λ t. EvaluatesAll block v u a b (evaluated_all (trees_of (operand_trees t operands arity)) e v.now.state) rs) (sym tables)
+    let evaluates : EvaluatesAll block (between v u a b) (term_arguments w operands arity e) rs =
+    subst (λ t. EvaluatesAll block (between v u a b) (evaluated_all (trees_of (operand_trees t operands arity)) e v.now.state) rs) (sym tables)
     (c.in_ok-take_arguments.ensures.ok l.terms block e (first-slot-of w p s goal gs e k c.first_slot.result at is c.first_slot.ensures) (subst (λ t. AreReadable t block operands arity) tables readable) stands.entries.tables is.behind.slots) in
     let calls : Calls u c.in_ok-name.field-0 rs c.take_called.new.args.items = subst (λ qs. Calls u c.in_ok-name.field-0 qs c.take_called.new.args.items) c.deref.ensures.value c.in_ok-name.ensures.called in
     let n = c.in-Some.name in
@@ -107,8 +107,8 @@ returns g c = λ node l is_code view goal gs e k es at stands.
     let rs : List Ref = c.take_arguments.new.run.terms.items in
     let tables : T ≡ tables_of l.terms c.args.code.now = ap (tables_of l.terms) is_code in
     let readable : AreReadable T block operands arity = (node-readable w p s goal gs e k (Node.CallTerm operands arity) at is node).0 in
-    let evaluates : EvaluatesAll block v u a b (term_arguments w operands arity e) rs =
-    subst (λ t. EvaluatesAll block v u a b (evaluated_all (trees_of (operand_trees t operands arity)) e v.now.state) rs) (sym tables)
+    let evaluates : EvaluatesAll block (between v u a b) (term_arguments w operands arity e) rs =
+    subst (λ t. EvaluatesAll block (between v u a b) (evaluated_all (trees_of (operand_trees t operands arity)) e v.now.state) rs) (sym tables)
     (c.in_ok-take_arguments.ensures.ok l.terms block e (first-slot-of w p s goal gs e k c.first_slot.result at is c.first_slot.ensures) (subst (λ t. AreReadable t block operands arity) tables readable) stands.entries.tables is.behind.slots) in
     let calls : Calls u c.in_ok-name.field-0 rs c.take_called.new.args.items = subst (λ qs. Calls u c.in_ok-name.field-0 qs c.take_called.new.args.items) c.deref.ensures.value c.in_ok-name.ensures.called in
     let n = c.in-Some.name in

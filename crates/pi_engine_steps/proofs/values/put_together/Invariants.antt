@@ -2,7 +2,7 @@ use Rattle.std.proofs.Common.{◌≡◌, ◌≤◌, length}
 use Rattle.pi_terms.specs.Places.{Places}
 use Rattle.pi_constraints.specs.Store.{Terms, Extend}
 use Rattle.pi_unify.specs.Copying.{AreBuilt}
-use Rattle.pi_engine_arenas.specs.Arenas.{view_of}
+use Rattle.pi_engine_arenas.specs.Arenas.{view_of, between}
 use Rattle.pi_engine_code.specs.Code.{tables_of}
 use Rattle.pi_engine_stands.specs.Here.{Block, Holds}
 use Rattle.pi_engine_arenas.specs.Frames.{slot_number}
@@ -17,5 +17,5 @@ invariant-loop-i g l =
     × ((t : Terms) (b : Block) (f : Places) → l.first ≡ slot_number b.base b.first → l.from ≤ l.to → l.to ≤ length l.code.parts.items → Extend t (g.S.StateStore.seen l.initial.run.store).now.terms →
     AreReadableParts (tables_of t l.code) b (parts_between (tables_of t l.code) l.from l.to) → AreFilledParts f (parts_between (tables_of t l.code) l.from l.to) →
     Holds (g.S.StateStore.seen l.initial.run.store).now.terms l.initial.run.arenas.blocks.slots b f →
-    Writes b (g.S.StateStore.seen l.initial.run.store) (g.S.StateStore.seen l.run.store) (view_of l.initial.run.arenas) (view_of l.run.arenas) f (g.S.StateStore.seen l.initial.run.store).now.state
+    Writes b (between (g.S.StateStore.seen l.initial.run.store) (g.S.StateStore.seen l.run.store) (view_of l.initial.run.arenas) (view_of l.run.arenas)) f (g.S.StateStore.seen l.initial.run.store).now.state
     × AreBuilt (g.S.StateStore.seen l.run.store) l.run.made.items (built_from (tables_of t l.code) l.i l.to f (g.S.StateStore.seen l.initial.run.store).now.state))

@@ -3,7 +3,7 @@ use Rattle.std.proofs.lemmas.List.{length-map}
 use Rattle.pi_core.specs.CoreTree.{pred_tree, clause_tree}
 use Rattle.pi_unify.proofs.KeepsLemmas.{keeps_then}
 use Rattle.pi_engine_code.specs.Laid.{tables_for}
-use Rattle.pi_engine_code.specs.LaidRules.{RulesAt}
+use Rattle.pi_engine_code.specs.LaidRules.{RulesAt, in_tables}
 use Rattle.pi_engine_code.proofs.LaidRuleLemmas.{no-rules-added, rule-added, all-rules-added}
 use Rattle.pi_engine_code.proofs.build.Builder.add_rules.Goals as goal
 
@@ -55,7 +55,7 @@ returns-clause-laid g c = λ all numbered acyclic.
       facts = c.has_index.ensures;
       rules = c.in_ok-short.ensures ∙ omega (arith, c.len-2.ensures) ∙ c.loop-clause.invariant.long ∙ ap (λ n. n + c.loop-clause.clause-index) first
           ∙ ap (λ n. c.in_ok-first.first + n) (count ∙ ap length c.as_slice-clause-items.ensures ∙ sym (length-map c.args.pred.now.clauses clause_tree));
-      each = subst (λ n. RulesAt all (tables_for all (g.S.StateStore.seen c.loop-clause.store).now.terms c.loop-clause.code) (g.S.StateStore.seen c.loop-clause.store).names c.loop-clause.code (pred_tree c.args.pred.now) n (pred_tree c.args.pred.now).clauses) first
+      each = subst (λ n. RulesAt (in_tables all (tables_for all (g.S.StateStore.seen c.loop-clause.store).now.terms c.loop-clause.code) (g.S.StateStore.seen c.loop-clause.store).names c.loop-clause.code) (pred_tree c.args.pred.now) n (pred_tree c.args.pred.now).clauses) first
           (all-rules-added c.args.self.now.numbers (g.S.StateStore.seen c.args.store.now) (g.S.StateStore.seen c.loop-clause.store) c.args.code.now c.loop-clause.code (pred_tree c.args.pred.now) c.as_slice-clause-items.result.now c.loop-clause.clause-index
           c.loop-clause.invariant c.loop-clause-test.false (ap (map clause_tree) (sym c.as_slice-clause-items.ensures)) all numbered acyclic);
     }
