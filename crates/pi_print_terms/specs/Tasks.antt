@@ -44,6 +44,7 @@ to_do todo = 4 * cells_all todo.ahead + vec_len todo.tasks
 
 -- From an output on, a text was begun over some tasks and terms: what is written by now, with what is still to be done,
 -- is that output, then the text, then what those tasks write.
-abbrev pub Begins : Printer → List ℕ → List ℕ → List Task → Trees → List ℕ → Todo → Type 0
-Begins p old text tasks ahead new todo =
-    new ++ tasks_text p.is_quoted p.numbers todo.tasks.items todo.ahead ≡ old ++ (text ++ tasks_text p.is_quoted p.numbers tasks ahead)
+abbrev pub Begins : Printer → List ℕ → List ℕ → Todo → List ℕ → Todo → Type 0
+Begins p old text over new todo =
+    new ++ tasks_text p.is_quoted p.numbers todo.tasks.items todo.ahead
+    ≡ old ++ (text ++ tasks_text p.is_quoted p.numbers over.tasks.items over.ahead)

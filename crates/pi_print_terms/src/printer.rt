@@ -73,7 +73,7 @@ impl Printer {
     /// Writes what a task begins with, and leaves the rest of it to be done.
     fn step(&self, task: Task, todo: &mut Todo<'_>, out: &mut String) -> Result<(), AllocError>
         ensures ok { IfOk result (λ _. Begins self.now (string_bytes out.old)
-            (task_text self.now.is_quoted self.now.numbers task todo.old.ahead) todo.old.tasks.items (task_left task todo.old.ahead)
+            (task_text self.now.is_quoted self.now.numbers task todo.old.ahead) (record todo.old { ahead = task_left task todo.old.ahead })
             (string_bytes out.new) todo.new) }
         ensures less { OnOk result (to_do todo.new ≤ to_do todo.old) }
     {
@@ -87,7 +87,7 @@ impl Printer {
     /// Writes the beginning of the next term.
     fn next_value(&self, todo: &mut Todo<'_>, out: &mut String) -> Result<(), AllocError>
         ensures ok { IfOk result (λ _. Begins self.now (string_bytes out.old)
-            (task_text self.now.is_quoted self.now.numbers Value todo.old.ahead) todo.old.tasks.items (drop_trees 1 todo.old.ahead)
+            (task_text self.now.is_quoted self.now.numbers Value todo.old.ahead) (record todo.old { ahead = drop_trees 1 todo.old.ahead })
             (string_bytes out.new) todo.new) }
         ensures less { OnOk result (to_do todo.new ≤ to_do todo.old) }
     {
@@ -101,7 +101,7 @@ impl Printer {
     /// Writes what follows an item of a list.
     fn rest(&self, todo: &mut Todo<'_>, out: &mut String) -> Result<(), AllocError>
         ensures ok { IfOk result (λ _. Begins self.now (string_bytes out.old)
-            (task_text self.now.is_quoted self.now.numbers Rest todo.old.ahead) todo.old.tasks.items (drop_trees 1 todo.old.ahead)
+            (task_text self.now.is_quoted self.now.numbers Rest todo.old.ahead) (record todo.old { ahead = drop_trees 1 todo.old.ahead })
             (string_bytes out.new) todo.new) }
         ensures less { OnOk result (to_do todo.new ≤ to_do todo.old) }
     {
@@ -133,8 +133,8 @@ impl Printer {
         out: &mut String,
     ) -> Result<(), AllocError>
         ensures ok { IfOk result (λ _. Begins self.now (string_bytes out.old)
-            (task_text self.now.is_quoted self.now.numbers (Arguments count close) todo.old.ahead) todo.old.tasks.items
-            (drop_trees count todo.old.ahead) (string_bytes out.new) todo.new) }
+            (task_text self.now.is_quoted self.now.numbers (Arguments count close) todo.old.ahead)
+            (record todo.old { ahead = drop_trees count todo.old.ahead }) (string_bytes out.new) todo.new) }
         ensures less { OnOk result (to_do todo.new ≤ to_do todo.old) }
     {
         if count == 0 {
@@ -160,8 +160,8 @@ impl Printer {
     ) -> Result<(), AllocError>
         requires { count_of head ≤ tree_count todo.old.ahead }
         ensures ok { IfOk result (λ _. Begins self.now (string_bytes out.old)
-            (written self.now.is_quoted self.now.numbers (built head.entry todo.old.ahead)) todo.old.tasks.items
-            (behind head.entry todo.old.ahead) (string_bytes out.new) todo.new) }
+            (written self.now.is_quoted self.now.numbers (built head.entry todo.old.ahead))
+            (record todo.old { ahead = behind head.entry todo.old.ahead }) (string_bytes out.new) todo.new) }
         ensures fewer { OnOk result (cells_all todo.new.ahead ≤ cells_all todo.old.ahead) }
         ensures tasks { OnOk result (vec_len todo.new.tasks ≤ vec_len todo.old.tasks + 2) }
     {
@@ -193,7 +193,7 @@ impl Printer {
         requires { count ≤ tree_count todo.old.ahead }
         ensures ok { IfOk result (λ _. Begins self.now (string_bytes out.old)
             (written self.now.is_quoted self.now.numbers (comp name.now (take_trees count todo.old.ahead)))
-            todo.old.tasks.items (drop_trees count todo.old.ahead) (string_bytes out.new) todo.new) }
+            (record todo.old { ahead = drop_trees count todo.old.ahead }) (string_bytes out.new) todo.new) }
         ensures fewer { OnOk result (cells_all todo.new.ahead ≤ cells_all todo.old.ahead) }
         ensures tasks { OnOk result (vec_len todo.new.tasks ≤ vec_len todo.old.tasks + 2) }
     {
@@ -216,7 +216,7 @@ impl Printer {
         requires { count ≤ tree_count todo.old.ahead }
         ensures ok { IfOk result (λ _. Begins self.now (string_bytes out.old)
             (compound_text self.now.is_quoted name.now (arguments_text self.now.is_quoted self.now.numbers
-            (take_trees count todo.old.ahead))) todo.old.tasks.items (drop_trees count todo.old.ahead)
+            (take_trees count todo.old.ahead))) (record todo.old { ahead = drop_trees count todo.old.ahead })
             (string_bytes out.new) todo.new) }
         ensures fewer { OnOk result (cells_all todo.new.ahead ≤ cells_all todo.old.ahead) }
         ensures tasks { OnOk result (vec_len todo.new.tasks ≤ vec_len todo.old.tasks + 2) }
@@ -235,8 +235,8 @@ impl Printer {
     fn list(&self, todo: &mut Todo<'_>, out: &mut String) -> Result<(), AllocError>
         requires { 2 ≤ tree_count todo.old.ahead }
         ensures ok { IfOk result (λ _. Begins self.now (string_bytes out.old)
-            (list_text self.now.is_quoted self.now.numbers (take_trees 2 todo.old.ahead)) todo.old.tasks.items (drop_trees 2 todo.old.ahead)
-            (string_bytes out.new) todo.new) }
+            (list_text self.now.is_quoted self.now.numbers (take_trees 2 todo.old.ahead))
+            (record todo.old { ahead = drop_trees 2 todo.old.ahead }) (string_bytes out.new) todo.new) }
         ensures fewer { OnOk result (cells_all todo.new.ahead ≤ cells_all todo.old.ahead) }
         ensures tasks { OnOk result (vec_len todo.new.tasks ≤ vec_len todo.old.tasks + 2) }
     {
