@@ -51,7 +51,8 @@ module _ (x y : RulesSetting) (h : CallsAlike x.calls y.calls) where
       (λ p. chosen_rule (leaves_later r r.events) (body-alike call k r goals.1 free.1 r.events events.0 l p i) (e i)) (e i)
 
   rules-alike : (call : Tree) (k : ℕ) (rs : List RuleTree) → RulesAreBuilt rs → (l : Level) (ts : Trees) (s : State) → rules_called x call k rs (call_made l ts s) ≡ rules_called y call k rs (call_made l ts s)
-  unfolding rules_called RulesAreBuilt rules-alike call k (call_made [] n l) ts s = refl
+  unfolding rules_called RulesAreBuilt
+  rules-alike call k [] n l ts s = refl
   rules-alike call k (r ∷ rs) n l ts s =
       rule-alike call k r n.0.0 n.0.1 l s (rules_called x call (suc k) rs (call_made l ts s)) (rules_called y call (suc k) rs (call_made l ts s)) (rules-alike call (suc k) rs n.1 l ts s) (patterns_matched (bindings s) (head_arguments r.head) ts [])
 
