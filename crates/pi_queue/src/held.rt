@@ -32,7 +32,8 @@ impl<'a, S: StoredDomains> Model for Held<'a, S> {
 
     ghost view = { λ h. unwrap_or h.own (standing (S.seen h.store.now).now.state h.stand) };
 
-    ghost invariant = { λ h. IsDomain (standing (S.seen h.store.now).now.state h.stand) × (h.count ≡ length (standing (S.seen h.store.now).now.state h.stand)) };
+    ghost invariant = { λ h. IsDomain (standing (S.seen h.store.now).now.state h.stand) ×
+        (h.count ≡ length (standing (S.seen h.store.now).now.state h.stand)) };
 }
 
 impl<'a, S: StoredDomains> Held<'a, S> {

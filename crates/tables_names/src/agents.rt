@@ -1,5 +1,6 @@
 //! Agents. `events_of N bound; OLD; NEW` tells the events of variable N, which is bound now, or `unbound`, and which had the domain OLD
-//! and has NEW, or none where `free` stands there. `activations N; agent KIND M ..; event KIND M ..` tells whom events wake, in a store of N
+//! and has NEW, or none where `free` stands there. `activations N; agent KIND M ..; event KIND M ..` tells whom events wake, in
+//! a store of N
 //! variables and of the agents before them, each with its events, and a variable behind each of these.
 
 use pi_agent::{activations, events_of};

@@ -60,9 +60,9 @@ impl Builder<'_> {
         ensures resolved { IfOk result (λ _. (all : List Pred) → IsNumbering self.now.numbers all →
             AreResolved all code.old.steps.items → AreResolved all code.new.steps.items) }
         ensures right { IfOk result (λ _. (all : List Pred) → IsNumbering self.now.numbers all →
-        IsAcyclic (bindings (S.seen store.old).now.state) →
-        AddsPlaces all (placing (S.seen store.old) code.old callables.old)
-        (placing (S.seen store.new) code.new callables.new) name.now arity) }
+            IsAcyclic (bindings (S.seen store.old).now.state) →
+            AddsPlaces all (placing (S.seen store.old) code.old callables.old)
+            (placing (S.seen store.new) code.new callables.new) name.now arity) }
         ensures has { IfOk result (λ _. IsAcyclic (bindings (S.seen store.old).now.state) →
             HasPlaces (S.seen store.old).names (S.seen store.new).names callables.old callables.new name.now arity) }
     {
