@@ -2,7 +2,7 @@
 use Rattle.std.proofs.Common.{◌≡◌, ◌<◌, ◌≤◌, ◌+◌, ◌-◌, ℕ, zero, suc, List, [], ◌∷◌, ◌++◌, length, get_or, drop, refl, ap, sym, subst, ◌∙◌, append_assoc, add-one, arith, length-append, length-drop}
 use Rattle.std.proofs.Math.Seq.{get_or-append_right}
 use Rattle.std.proofs.lemmas.List.{append-nil, get_or-drop, get_or-map, length-map}
-use Rattle.pi_core.specs.GoalTree.{GoalTree, truth, fail, tick, call, apply, seq, alternatives, if_else, not, once, collect, count, catch, GoalTrees, no_goals, goal, count_goals, goal_at, take_goals, drop_goals, children, child, child_count, subgoals, subgoals_all, subgoal, nodes, nodes_all, ShowsNode, child_goals}
+use Rattle.pi_core.specs.GoalTree.{GoalTree, truth, fail, tick, call, apply, seq, alternatives, if_else, not, once, collect, count, catch, GoalTrees, no_goals, goal, count_goals, goal_at, take_goals, children, child, child_count, subgoals, subgoals_all, subgoal, nodes, nodes_all, ShowsNode, child_goals}
 use Rattle.pi_core.specs.GoalCells.{kind_of, kind_shown, arity, over, cell_of, flat, over-kind_of, arity-kind_of, subgoals-children}
 use Rattle.pi_core.specs.declared.goal_node.GoalCell.{GoalCell}
 use Rattle.pi_core.specs.declared.goal_node.GoalKind.{GoalKind}
@@ -159,8 +159,6 @@ length-cells g cells e = ap length e ∙ length-map (subgoals g) cell_of
 pub cell-at : (g : GoalTree) (cells : List GoalCell) (i : ℕ) (c : GoalCell) → cells ≡ flat g → i < nodes g → c ≡ get_or cells i c → c ≡ cell_of (subgoal g i)
 unfolding flat
 cell-at g cells i c e lt is = is ∙ (ap (λ r. get_or r i c) e ∙ get_or-map cell_of (subgoals g) i g c lt)
-
--- ---- the child goals from one of them on
 
 -- ---- a step over the cells of a child goal
 

@@ -1,3 +1,2 @@
 pub mod GoalCells
 pub mod GoalPlaces
-pub mod CoreTreeLemmas

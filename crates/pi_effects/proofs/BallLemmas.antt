@@ -7,7 +7,7 @@ use Rattle.pi_terms.specs.Substitution.{instance}
 use Rattle.pi_terms.proofs.OptionLemmas.{not-less}
 use Rattle.pi_constraints.specs.State.{State, bindings, followed}
 use Rattle.pi_constraints.specs.Value.{value}
-use Rattle.pi_constraints.specs.Store.{StoreView, IsTerm, ShowsRead, ShowsCell}
+use Rattle.pi_constraints.specs.Store.{StoreView, IsTerm, ShowsCell}
 use Rattle.pi_constraints.specs.declared.store.Ref.{Ref}
 use Rattle.pi_constraints.specs.declared.store.Cell.{Cell}
 use Rattle.pi_constraints.proofs.RootLemmas.{value_int}

@@ -4,7 +4,7 @@ use Rattle.std.specs.Int.{w128, bit_at}
 use Rattle.std.proofs.lemmas.Int.{to_z-of_z}
 use Rattle.std.proofs.lemmas.Nat.{and_le_l, or_lt, xor_lt}
 use Rattle.std.proofs.lemmas.Nat.Bits.{bit_at_and, bit_at_or, bit_at_xor, bit_at-lt, bit_at_not, same_from_bits_below}
-use Rattle.pi_effects.specs.Bits.{bit_of, complement, bits_without, bits_and, bits_or, bits_xor}
+use Rattle.pi_effects.specs.Bits.{bit_of, bits_without, bits_and, bits_or, bits_xor}
 
 -- ---- the bits of each operation
 

@@ -5,13 +5,13 @@ use Rattle.std.specs.List.{list_any, flat_map}
 use Rattle.std.proofs.Math.Seq.{take-suc}
 use Rattle.std.proofs.lemmas.Bool.{cases_Bool}
 use Rattle.std.proofs.lemmas.Grind.{flat_map-append}
-use Rattle.std.proofs.lemmas.List.{append_assoc, append-nil, length-append, get_or_past, take_all}
+use Rattle.std.proofs.lemmas.List.{append_assoc, append-nil, length-append, take_all}
 use Rattle.pi_terms.specs.Tree.{Tree, var, cells, subterms, ShowsHead}
 use Rattle.pi_terms.specs.Variables.{occurrences, firsts}
 use Rattle.pi_terms.specs.Numbers.{noted}
 use Rattle.pi_terms.specs.Places.{held}
 use Rattle.pi_constraints.specs.Value.{IsAcyclic}
-use Rattle.pi_constraints.specs.State.{State, bindings, domain_in, domain_of, domain_at_root, followed, free, next}
+use Rattle.pi_constraints.specs.State.{State, bindings, domain_of, domain_at_root, followed, next}
 use Rattle.pi_constraints.specs.Store.{StoreView, IsTerm}
 use Rattle.pi_constraints.specs.ToldDomains.{told_domain, told_domains}
 use Rattle.pi_constraints.specs.declared.domain.Span.{Span}

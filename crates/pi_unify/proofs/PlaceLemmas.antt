@@ -1,8 +1,7 @@
 -- A node that is put by its kind, and the whole term.
 use Rattle.std.proofs.Common.{◌≡◌, ℕ, ℤ, zero, suc, ◌+◌, ◌≤◌, List, [], ◌∷◌, length, reverse, Result, Ok, Err, ap, sym, ◌∙◌, subst, arith, length-append}
 use Rattle.std.specs.Prelude.{OnErr}
-use Rattle.pi_terms.specs.Tree.{Tree, var, int, atom, comp, Trees, tree_count, args, arity, drop_trees, ShowsHead}
-use Rattle.pi_terms.specs.TermCells.{take_trees}
+use Rattle.pi_terms.specs.Tree.{Tree, var, int, atom, Trees, tree_count, ShowsHead}
 use Rattle.pi_terms.specs.Variables.{variables}
 use Rattle.pi_terms.specs.Copy.{place_in, renamed, copy, new_variables}
 use Rattle.pi_constraints.specs.State.{State, free, next, with_new}
