@@ -16,7 +16,7 @@ use Rattle.pi_settling.proofs.SizeLemmas.{in-front, behind}
 use Rattle.pi_queue.specs.Leaving.{IsNarrower}
 use Rattle.pi_queue.specs.Turn.{MayTurn, IsTurn, IsFailure, Turns}
 use Rattle.pi_settling.specs.declared.stop.PropStop.{PropStop}
-use Rattle.pi_queue.specs.Ends.{numbers_below, Ends, IsDone, HasFailed, IsSpent, IsUnderWay, KeepsWithin}
+use Rattle.pi_queue.specs.Ends.{numbers_below, Ends, IsDone, HasFailed, IsSpent, IsUnderWay, KeepsWithin, worked}
 use Rattle.pi_queue.proofs.LeaveLemmas.{itself}
 use Rattle.pi_queue.proofs.WaitingLemmas.{Differ, below-is, below-has, below-differ, below-count}
 
@@ -168,23 +168,23 @@ all-due s is may = record {
 
 -- ---- by the answer
 
-pub ends-mean : (s : State) (due : List ℕ) (limit : ℕ) (old new : Work) (r : State) (answer : Result Bool PropStop) → (MayPropagate s due → Ends s due limit old new r answer) →
+pub ends-mean : (s : State) (due : List ℕ) (limit : ℕ) (old new : Work) (r : State) (answer : Result Bool PropStop) → (MayPropagate s due → Ends s due (worked limit old new) r answer) →
     IfOk answer (λ some. MayPropagate s due → MatchBool some (IsStable s r) (IsEmptied s))
 ends-mean s due limit old new r (Ok true) h = λ may. stands s due old new r may (h may)
 ends-mean s due limit old new r (Ok false) h = λ may. emptied s due old new may (h may)
 ends-mean s due limit old new r (Err e) h = tt
 
-pub all-mean : (s : State) (limit : ℕ) (old new : Work) (r : State) (answer : Result Bool PropStop) → (IsState s → MaySettle s → Ends s (numbers_below (length s.constraints)) limit old new r answer) →
+pub all-mean : (s : State) (limit : ℕ) (old new : Work) (r : State) (answer : Result Bool PropStop) → (IsState s → MaySettle s → Ends s (numbers_below (length s.constraints)) (worked limit old new) r answer) →
     IfOk answer (λ some. IsState s → MaySettle s → MatchBool some (IsStable s r) (IsEmptied s))
 all-mean s limit old new r (Ok true) h = λ is may. stands s (numbers_below (length s.constraints)) old new r (all-due s is may) (h is may)
 all-mean s limit old new r (Ok false) h = λ is may. emptied s (numbers_below (length s.constraints)) old new (all-due s is may) (h is may)
 all-mean s limit old new r (Err e) h = tt
 
 -- those that were put into the queue are those that were handed over
-pub from-these : (s : State) (due numbers waiting : List ℕ) (limit : ℕ) (old new : Work) (r : State) (answer : Result Bool PropStop) → numbers ≡ due → (Differ numbers → waiting ≡ numbers) → (MayPropagate s waiting → Ends s waiting limit old new r answer) → MayPropagate s due → Ends s due limit old new r answer
+pub from-these : (s : State) (due numbers waiting : List ℕ) (limit : ℕ) (old new : Work) (r : State) (answer : Result Bool PropStop) → numbers ≡ due → (Differ numbers → waiting ≡ numbers) → (MayPropagate s waiting → Ends s waiting (worked limit old new) r answer) → MayPropagate s due → Ends s due (worked limit old new) r answer
 from-these s due numbers waiting limit old new r answer same put h may =
     let is : waiting ≡ due = put (subst Differ (sym same) may.different) ∙ same in
-    subst (λ (d : List ℕ). Ends s d limit old new r answer) is (h (subst (MayPropagate s) (sym is) may))
+    subst (λ (d : List ℕ). Ends s d (worked limit old new) r answer) is (h (subst (MayPropagate s) (sym is) may))
 
 pub way-from-these : (s : State) (due numbers waiting : List ℕ) (old new : Work) (r : State) → numbers ≡ due → (Differ numbers → waiting ≡ numbers) → (MayPropagate s waiting → IsUnderWay s waiting old new r) → MayPropagate s due →
     new.runs ≤ old.runs + (length due + sum_by (count_lost s r) s.constraints)
@@ -192,10 +192,10 @@ way-from-these s due numbers waiting old new r same put h may =
     let is : waiting ≡ due = put (subst Differ (sym same) may.different) ∙ same in
     bounded s due old new r may.state may.settles (subst (λ (d : List ℕ). IsUnderWay s d old new r) is (h (subst (MayPropagate s) (sym is) may)))
 
-pub from-all : (s : State) (waiting : List ℕ) (limit : ℕ) (old new : Work) (r : State) (answer : Result Bool PropStop) → waiting ≡ numbers_below (length s.constraints) → (MayPropagate s waiting → Ends s waiting limit old new r answer) → IsState s → MaySettle s →
-    Ends s (numbers_below (length s.constraints)) limit old new r answer
+pub from-all : (s : State) (waiting : List ℕ) (limit : ℕ) (old new : Work) (r : State) (answer : Result Bool PropStop) → waiting ≡ numbers_below (length s.constraints) → (MayPropagate s waiting → Ends s waiting (worked limit old new) r answer) → IsState s → MaySettle s →
+    Ends s (numbers_below (length s.constraints)) (worked limit old new) r answer
 from-all s waiting limit old new r answer is h state may =
-    subst (λ (d : List ℕ). Ends s d limit old new r answer) is (h (subst (MayPropagate s) (sym is) (all-due s state may)))
+    subst (λ (d : List ℕ). Ends s d (worked limit old new) r answer) is (h (subst (MayPropagate s) (sym is) (all-due s state may)))
 
 pub way-from-all : (s : State) (waiting : List ℕ) (old new : Work) (r : State) → waiting ≡ numbers_below (length s.constraints) → (MayPropagate s waiting → IsUnderWay s waiting old new r) → IsState s → MaySettle s →
     new.runs ≤ old.runs + (length s.constraints + sum_by (count_lost s r) s.constraints)

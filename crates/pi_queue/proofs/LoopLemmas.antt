@@ -13,7 +13,7 @@ use Rattle.pi_settling.specs.Roots.{root_item, given}
 use Rattle.pi_settling.proofs.PlaceLemmas.{count-places}
 use Rattle.pi_settling.specs.Run.{given_at, KeptBefore, Fails}
 use Rattle.pi_settling.proofs.NarrowLemmas.{narrow-state}
-use Rattle.pi_queue.specs.Leaving.{MayTake, Takes, HasLeft, MayLeave, IsNarrower, LeavesAll}
+use Rattle.pi_queue.specs.Leaving.{MayTake, Takes, HasLeft, MayLeave, IsNarrower, LeavesAll, with_lost}
 use Rattle.pi_queue.proofs.LeaveLemmas.{StandsAt, IsLeftAt, item_at, step, fails, meets, starts, narrower}
 
 pub as-places : (s : State) (c : Constraint) (roots : List Item) (before left : List (List Span)) (lost : List ℕ) → MayLeave s c roots before left lost → length roots ≡ length (places_of c)
@@ -51,29 +51,29 @@ stands s q c k roots given' left lost now m l h = record { state = m.narrows.sta
 
 -- what the item takes
 taken : (s q r : State) (c : Constraint) (k : ℕ) (item : Item) (before here : List Span) (lost more : List ℕ) (some : Bool) → StandsAt s c k q lost → IsRead s c k item before here →
-    (IsState q → MayTake q item before here → Takes here q lost (root_item q item) some r more) → Takes here q lost (root_item q (item_at s c k)) some r more
+    (IsState q → MayTake q item before here → Takes here (with_lost q lost) (root_item q item) some (with_lost r more)) → Takes here (with_lost q lost) (root_item q (item_at s c k)) some (with_lost r more)
 taken s q r c k item before here lost more some a is call =
     let state : IsState q = narrow-state (KeptBefore s c k) s q a.state a.so_far.narrowed in
     let may : MayTake q (item_at s c k) before here = meets s c k q lost before here a is.here_is is.before_is in
-    subst (λ (x : Item). Takes here q lost (root_item q x) some r more) is.item_is (call state (subst (λ (x : Item). MayTake q x before here) (sym is.item_is) may))
+    subst (λ (x : Item). Takes here (with_lost q lost) (root_item q x) some (with_lost r more)) is.item_is (call state (subst (λ (x : Item). MayTake q x before here) (sym is.item_is) may))
 
 pub leaves-more : (s q r : State) (c : Constraint) (k : ℕ) (roots : List Item) (given' left : List (List Span)) (lost now more : List ℕ) (item : Item) (before here : List Span) (some : Bool) → MayLeave s c roots given' left lost → k < length roots →
     item ≡ get_or roots k item → before ≡ get_or given' k before → here ≡ get_or left k here → HasLeft s c k q now →
-    (IsState q → MayTake q item before here → Takes here q now (root_item q item) some r more) → some ≡ true → HasLeft s c (k + 1) r more
+    (IsState q → MayTake q item before here → Takes here (with_lost q now) (root_item q item) some (with_lost r more)) → some ≡ true → HasLeft s c (k + 1) r more
 leaves-more s q r c k roots given' left lost now more item before here some m l item-is before-is here-is h call is =
     let read : IsRead s c k item before here = is-read s c k roots given' left lost item before here m l item-is before-is here-is in
     let a : StandsAt s c k q now = stands s q c k roots given' left lost now m read.inside h in
-    let t : Takes here q now (root_item q (item_at s c k)) some r more = taken s q r c k item before here now more some a read call in
-    step s c k q r now more here a read.here_is (subst (λ (b : Bool). Takes here q now (root_item q (item_at s c k)) b r more) is t)
+    let t : Takes here (with_lost q now) (root_item q (item_at s c k)) some (with_lost r more) = taken s q r c k item before here now more some a read call in
+    step s c k q r now more here a read.here_is (subst (λ (b : Bool). Takes here (with_lost q now) (root_item q (item_at s c k)) b (with_lost r more)) is t)
 
 pub leaves-none : (s q r : State) (c : Constraint) (k : ℕ) (roots : List Item) (given' left : List (List Span)) (lost now more : List ℕ) (item : Item) (before here : List Span) (some : Bool) → MayLeave s c roots given' left lost → k < length roots →
     item ≡ get_or roots k item → before ≡ get_or given' k before → here ≡ get_or left k here → HasLeft s c k q now →
-    (IsState q → MayTake q item before here → Takes here q now (root_item q item) some r more) → some ≡ false → Fails s c × IsNarrower s r
+    (IsState q → MayTake q item before here → Takes here (with_lost q now) (root_item q item) some (with_lost r more)) → some ≡ false → Fails s c × IsNarrower s r
 leaves-none s q r c k roots given' left lost now more item before here some m l item-is before-is here-is h call is =
     let read : IsRead s c k item before here = is-read s c k roots given' left lost item before here m l item-is before-is here-is in
     let a : StandsAt s c k q now = stands s q c k roots given' left lost now m read.inside h in
-    let t : Takes here q now (root_item q (item_at s c k)) some r more = taken s q r c k item before here now more some a read call in
-    let none : Takes here q now (root_item q (item_at s c k)) false r more = subst (λ (b : Bool). Takes here q now (root_item q (item_at s c k)) b r more) is t in
+    let t : Takes here (with_lost q now) (root_item q (item_at s c k)) some (with_lost r more) = taken s q r c k item before here now more some a read call in
+    let none : Takes here (with_lost q now) (root_item q (item_at s c k)) false (with_lost r more) = subst (λ (b : Bool). Takes here (with_lost q now) (root_item q (item_at s c k)) b (with_lost r more)) is t in
     (fails s c k q now here a read.here_is none.1, subst (IsNarrower s) (sym none.0) (narrower (KeptBefore s c k) s q a.state a.settles h.narrowed))
 
 pub leaves-start : (s : State) (c : Constraint) (roots : List Item) (given' left : List (List Span)) (lost : List ℕ) → MayLeave s c roots given' left lost → HasLeft s c 0 s lost

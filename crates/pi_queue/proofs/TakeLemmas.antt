@@ -18,7 +18,7 @@ use Rattle.pi_settling.proofs.StableLemmas.{only-domain, has-only, empty-has}
 use Rattle.pi_settling.proofs.TwiceLemmas.{has_in}
 use Rattle.pi_settling.proofs.NarrowLemmas.{unbound-domain}
 use Rattle.pi_settling.proofs.SizeLemmas.{size-lost, same-or-lost, front-or-behind, none-there}
-use Rattle.pi_queue.specs.Leaving.{IsWithin, IsLater, MayTake, IsTaken, all_stay, some_stay, one_stays, Takes}
+use Rattle.pi_queue.specs.Leaving.{IsWithin, IsLater, MayTake, IsTaken, all_stay, some_stay, one_stays, Takes, with_lost}
 
 -- ---- as many values are the same values
 
@@ -51,17 +51,17 @@ only-value e i j up one hi hj = first-of-one (values_of e) i j one ((values_lie_
 
 -- ---- what stays as it was
 
-pub unchanged : (s : State) (x : Item) (before left : List Span) (told : Option (List Span)) (lost : List ℕ) → left ≡ unwrap_or told before → told ≡ None → MayTake s x before left → Takes left s lost (root_item s x) true s lost
+pub unchanged : (s : State) (x : Item) (before left : List Span) (told : Option (List Span)) (lost : List ℕ) → left ≡ unwrap_or told before → told ≡ None → MayTake s x before left → Takes left (with_lost s lost) (root_item s x) true (with_lost s lost)
 unchanged s x before left told lost is none may =
     let same : left ≡ before = is ∙ ap (λ (o : Option (List Span)). unwrap_or o before) none in
     all_stay (root_item s x) (λ i h. subst (λ (d : List Span). IsTrue (has_value d i)) (sym same) (may.had i h))
 
-pub shown-told : (s r : State) (before left here : List Span) (told : Option (List Span)) (lost more : List ℕ) (x : Item) (some : Bool) → left ≡ unwrap_or told before → told ≡ Some here → Takes here s lost x some r more → Takes left s lost x some r more
-shown-told s r before left here told lost more x some is there t = subst (λ (d : List Span). Takes d s lost x some r more) (sym (is ∙ ap (λ (o : Option (List Span)). unwrap_or o before) there)) t
+pub shown-told : (s r : State) (before left here : List Span) (told : Option (List Span)) (lost more : List ℕ) (x : Item) (some : Bool) → left ≡ unwrap_or told before → told ≡ Some here → Takes here (with_lost s lost) x some (with_lost r more) → Takes left (with_lost s lost) x some (with_lost r more)
+shown-told s r before left here told lost more x some is there t = subst (λ (d : List Span). Takes d (with_lost s lost) x some (with_lost r more)) (sym (is ∙ ap (λ (o : Option (List Span)). unwrap_or o before) there)) t
 
 -- ---- an integer
 
-pub integer-takes : (s : State) (left : List Span) (lost : List ℕ) (i : ℤ) (b : Bool) → b ≡ has_value left i → Takes left s lost (Item.Int i) b s lost
+pub integer-takes : (s : State) (left : List Span) (lost : List ℕ) (i : ℤ) (b : Bool) → b ≡ has_value left i → Takes left (with_lost s lost) (Item.Int i) b (with_lost s lost)
 integer-takes s left lost i true is = all_stay (Item.Int i) (λ j h. subst (λ (z : ℤ). IsTrue (has_value left z)) (sym (has-only i j h)) (sym is))
 integer-takes s left lost i false is = (refl, λ j h l. not_both (has_value left i) (subst (λ (z : ℤ). IsTrue (has_value left z)) (has-only i j h) l) (sym is))
 
@@ -70,10 +70,10 @@ integer-takes s left lost i false is = (refl, λ j h l. not_both (has_value left
 given-had : (s : State) (n : ℕ) (d : List Span) (i : ℤ) → domain_of s n ≡ Some d → IsTrue (has_value (given s (Item.Var n)) i) → IsTrue (has_value d i)
 given-had s n d i has h = has_in (given s (Item.Var n)) d i (unbound-domain s n d has).1 h
 
-pub all-kept : (s : State) (n : ℕ) (d e : List Span) (lost : List ℕ) (b : Bool) → domain_of s n ≡ Some d → IsDomain d → IsDomain e → IsWithin e d → b ≡ (size_of d == size_of e) → b ≡ true → Takes e s lost (Item.Var n) true s lost
+pub all-kept : (s : State) (n : ℕ) (d e : List Span) (lost : List ℕ) (b : Bool) → domain_of s n ≡ Some d → IsDomain d → IsDomain e → IsWithin e d → b ≡ (size_of d == size_of e) → b ≡ true → Takes e (with_lost s lost) (Item.Var n) true (with_lost s lost)
 all-kept s n d e lost b has up vp inside is hit = all_stay (Item.Var n) (λ i h. as-many d e b up vp inside is hit i (given-had s n d i has h))
 
-pub none-kept : (s : State) (n : ℕ) (e : List Span) (lost more : List ℕ) → e ≡ [] → Takes e s lost (Item.Var n) false s more
+pub none-kept : (s : State) (n : ℕ) (e : List Span) (lost more : List ℕ) → e ≡ [] → Takes e (with_lost s lost) (Item.Var n) false (with_lost s more)
 none-kept s n e lost more empty = (refl, λ i h l. empty-has i (has_in e [] i empty l))
 
 -- the values of both that one has are its own
@@ -102,7 +102,7 @@ one-or-more (suc zero) none = inl refl
 one-or-more (suc (suc n)) none = inr (omega arith)
 
 pub some-kept : (s r : State) (n : ℕ) (d e : List Span) (i : ℤ) (b : Bool) (lost more : List ℕ) → domain_of s n ≡ Some d → IsDomain d → IsDomain e → IsWithin e d → b ≡ (size_of d == size_of e) → b ≡ false → IsTrue (has_value e i) →
-    (size_of e ≡ 1 → r ≡ with_binding s n (int i)) → (2 ≤ size_of e → r ≡ with_domain s n e) → more ≡ lost ++ n ∷ [] → Takes e s lost (Item.Var n) true r more
+    (size_of e ≡ 1 → r ≡ with_binding s n (int i)) → (2 ≤ size_of e → r ≡ with_domain s n e) → more ≡ lost ++ n ∷ [] → Takes e (with_lost s lost) (Item.Var n) true (with_lost r more)
 some-kept s r n d e i b lost more has up vp inside is miss least fix confine pushed =
     subst (λ (ms : List ℕ). IsTaken e s lost (Item.Var n) r ms) (sym pushed)
     (written s r n d e i lost has vp inside (one-gone d e b up vp inside is miss) least (one-or-more (size_of e) (some-values e i least)) fix confine)
@@ -153,7 +153,7 @@ met-taken s r n d left e lost more x has met is (one_stays m d' j v had both in-
       λ h. (both i).1 (h.0, both-met d left e met i (has_in d' d i same h.0) h.1),
     )) in-d (λ l. not-e (both-met d left e met v (has_in d' d v same in-d) l))
 
-pub met-takes : (s r : State) (n : ℕ) (d left e : List Span) (lost more : List ℕ) (b : Bool) → domain_of s n ≡ Some d → IsMet d left e → Takes e s lost (Item.Var n) b r more → Takes left s lost (Item.Var n) b r more
+pub met-takes : (s r : State) (n : ℕ) (d left e : List Span) (lost more : List ℕ) (b : Bool) → domain_of s n ≡ Some d → IsMet d left e → Takes e (with_lost s lost) (Item.Var n) b (with_lost r more) → Takes left (with_lost s lost) (Item.Var n) b (with_lost r more)
 met-takes s r n d left e lost more true has met taken = met-taken s r n d left e lost more (Item.Var n) has met refl taken
 met-takes s r n d left e lost more false has met (same, none) = (same, λ i h l. none i h (both-met d left e met i (given-had s n d i has h) l))
 
@@ -164,11 +164,11 @@ pub later-variable : (s : State) (n m : ℕ) → IsLater s (Item.Var n) → root
 later-variable s n m (inl had) e = had
 later-variable s n m (inr (i, is)) e = absurd (let same : Item.Int i ≡ Item.Var m = sym is ∙ e in cc)
 
-pub variable-takes : (s r : State) (n : ℕ) (d left : List Span) (lost more : List ℕ) (b : Bool) → domain_of s n ≡ Some d → Takes left s lost (Item.Var n) b r more → Takes left s lost (root_item s (Item.Var n)) b r more
-variable-takes s r n d left lost more b has taken = subst (λ (x : Item). Takes left s lost x b r more) (sym (unbound-domain s n d has).0) taken
+pub variable-takes : (s r : State) (n : ℕ) (d left : List Span) (lost more : List ℕ) (b : Bool) → domain_of s n ≡ Some d → Takes left (with_lost s lost) (Item.Var n) b (with_lost r more) → Takes left (with_lost s lost) (root_item s (Item.Var n)) b (with_lost r more)
+variable-takes s r n d left lost more b has taken = subst (λ (x : Item). Takes left (with_lost s lost) x b (with_lost r more)) (sym (unbound-domain s n d has).0) taken
 
-pub shown-takes : (s r : State) (x y : Item) (left : List Span) (lost more : List ℕ) (b : Bool) → x ≡ y → Takes left s lost y b r more → Takes left s lost x b r more
-shown-takes s r x y left lost more b e taken = subst (λ (z : Item). Takes left s lost z b r more) (sym e) taken
+pub shown-takes : (s r : State) (x y : Item) (left : List Span) (lost more : List ℕ) (b : Bool) → x ≡ y → Takes left (with_lost s lost) y b (with_lost r more) → Takes left (with_lost s lost) x b (with_lost r more)
+shown-takes s r x y left lost more b e taken = subst (λ (z : Item). Takes left (with_lost s lost) z b (with_lost r more)) (sym e) taken
 
 -- one that is no integer is unbound, so it is neither an atom nor a compound at its root
 unbound-shows : (s : State) (n : ℕ) (t : Tree) → IsLater s (Item.Var n) → followed (bindings s) (var n) ≡ t → ((i : ℤ) → item_of n t ≡ Item.Int i → ⊥) → t ≡ var n
@@ -186,11 +186,11 @@ domain-found s n d e found has is same = has ∙ (sym is ∙ same)
 
 -- ---- an integer that is passed on stands by its bits
 
-pub integer-takes-at : (s : State) (left : List Span) (lost : List ℕ) (i j : ℤ) (b : Bool) → b ≡ has_value left j → i ≡ j → Takes left s lost (Item.Int i) b s lost
+pub integer-takes-at : (s : State) (left : List Span) (lost : List ℕ) (i j : ℤ) (b : Bool) → b ≡ has_value left j → i ≡ j → Takes left (with_lost s lost) (Item.Int i) b (with_lost s lost)
 integer-takes-at s left lost i j b is same = integer-takes s left lost i b (is ∙ ap (has_value left) (sym same))
 
 pub some-kept-at : (s r : State) (n : ℕ) (d e : List Span) (i j : ℤ) (b : Bool) (lost more : List ℕ) → domain_of s n ≡ Some d → IsDomain d → IsDomain e → IsWithin e d → b ≡ (size_of d == size_of e) → b ≡ false → IsTrue (has_value e i) →
-    (size_of e ≡ 1 → r ≡ with_binding s n (int j)) → (2 ≤ size_of e → r ≡ with_domain s n e) → more ≡ lost ++ n ∷ [] → i ≡ j → Takes e s lost (Item.Var n) true r more
+    (size_of e ≡ 1 → r ≡ with_binding s n (int j)) → (2 ≤ size_of e → r ≡ with_domain s n e) → more ≡ lost ++ n ∷ [] → i ≡ j → Takes e (with_lost s lost) (Item.Var n) true (with_lost r more)
 some-kept-at s r n d e i j b lost more has up vp inside is miss least fix confine pushed same =
     some-kept s r n d e j b lost more has up vp inside is miss (subst (λ (z : ℤ). IsTrue (has_value e z)) same least) fix confine pushed
 

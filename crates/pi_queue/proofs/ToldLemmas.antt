@@ -11,7 +11,7 @@ use Rattle.pi_settling.specs.Roots.{root_item, given}
 use Rattle.pi_settling.proofs.PlaceLemmas.{count-places}
 use Rattle.pi_settling.specs.Run.{Fails}
 use Rattle.pi_queue.specs.Changes.{AreTold}
-use Rattle.pi_queue.specs.Leaving.{MayTake, Takes, HasLeft, MayLeave, IsNarrower}
+use Rattle.pi_queue.specs.Leaving.{MayTake, Takes, HasLeft, MayLeave, IsNarrower, with_lost}
 use Rattle.pi_queue.proofs.LoopLemmas.{as-places, leaves-more, leaves-none}
 use Rattle.pi_queue.proofs.FilterLemmas.{told-at}
 
@@ -26,7 +26,7 @@ in-left s c k roots before left lost m l = let inside = in-before s c k roots be
 
 -- what leaving one place comes to, whatever its values were
 abbrev pub TakesTold : State → State → Option (List Span) → List ℕ → Item → Bool → List ℕ → Type 0
-TakesTold q r one now item some more = (b l : List Span) → l ≡ unwrap_or one b → IsState q → MayTake q item b l → Takes l q now (root_item q item) some r more
+TakesTold q r one now item some more = (b l : List Span) → l ≡ unwrap_or one b → IsState q → MayTake q item b l → Takes l (with_lost q now) (root_item q item) some (with_lost r more)
 
 pub told-more : (s q r : State) (c : Constraint) (k : ℕ) (roots : List Item) (before left : List (List Span)) (told : List (Option (List Span))) (lost now more : List ℕ) (item : Item) (one : Option (List Span)) (some : Bool) → AreTold before told left → MayLeave s c roots before left lost →
     k < length roots → item ≡ get_or roots k item → one ≡ get_or told k one → HasLeft s c k q now → TakesTold q r one now item some more → some ≡ true → HasLeft s c (k + 1) r more

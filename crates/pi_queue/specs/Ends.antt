@@ -52,9 +52,18 @@ pub record KeepsWithin (limit : ℕ) (old new : Work) : Type 0 where
   pub counted : HasRun many old new
   pub within : (many ≡ 0) ⊎ (work_of new ≤ limit)
 
+-- the work before and after, and its limit
+pub record Worked : Type 0 where
+  pub limit : ℕ
+  pub old : Work
+  pub new : Work
+
+abbrev pub worked : ℕ → Work → Work → Worked
+worked limit old new = record { limit = limit; old = old; new = new }
+
 -- what a propagation makes of a state in which these constraints are due, and of the work, by its answer
-abbrev pub Ends : State → List ℕ → ℕ → Work → Work → State → Result Bool PropStop → Type 0
-Ends s due limit old new r (Ok true) = IsDone s due old new r
-Ends s due limit old new r (Ok false) = HasFailed s due old new
-Ends s due limit old new r (Err PropStop.WorkSpent) = IsSpent s due limit old new r
-Ends s due limit old new r (Err PropStop.Memory) = ⊤
+abbrev pub Ends : State → List ℕ → Worked → State → Result Bool PropStop → Type 0
+Ends s due w r (Ok true) = IsDone s due w.old w.new r
+Ends s due w r (Ok false) = HasFailed s due w.old w.new
+Ends s due w r (Err PropStop.WorkSpent) = IsSpent s due w.limit w.old w.new r
+Ends s due w r (Err PropStop.Memory) = ⊤

@@ -5,6 +5,7 @@ use Rattle.pi_constraints.specs.declared.constraint.Constraint.{Constraint}
 use Rattle.pi_constraints.specs.declared.constraint.Item.{Item}
 use Rattle.pi_constraints.specs.declared.domain.Span.{Span}
 use Rattle.pi_constraints.specs.Domain.{IsDomain, has_value, size_of}
+use Rattle.pi_constraints.specs.Store.{StoreView}
 use Rattle.pi_prop_spec.specs.Places.{places_of}
 use Rattle.pi_prop_spec.specs.Filter.{Leaves}
 use Rattle.pi_constraints.specs.State.{State, IsState, free, domain_of, with_domain, with_binding}
@@ -37,10 +38,25 @@ pub data IsTaken (left : List Span) (s : State) (lost : List ℕ) : Item → Sta
   one_stays : (n : ℕ) (d : List Span) (i v : ℤ) → domain_of s n ≡ Some d → ((j : ℤ) → (j ≡ i) ↔ (IsTrue (has_value d j) × IsTrue (has_value left j))) →
       IsTrue (has_value d v) → (IsTrue (has_value left v) → ⊥) → IsTaken left s lost (Item.Var n) (with_binding s n (int i)) (lost ++ n ∷ [])
 
+-- a state, and the variables that lost a value on the way to it
+pub record WithLost : Type 0 where
+  pub state : State
+  pub lost : List ℕ
+
+abbrev pub with_lost : State → List ℕ → WithLost
+with_lost s lost = record { state = s; lost = lost }
+
+abbrev pub lost_in : {M : Type 0} → StoreView M → List ℕ → WithLost
+lost_in v lost = with_lost v.now.state lost
+
+-- the state is as it was
+abbrev pub KeepsState : {M : Type 0} → StoreView M → StoreView M → Type 0
+KeepsState old new = new.now.state ≡ old.now.state
+
 -- whether an item that is followed is left a value, and what becomes of the state
-abbrev pub Takes : List Span → State → List ℕ → Item → Bool → State → List ℕ → Type 0
-Takes left s lost x true r more = IsTaken left s lost x r more
-Takes left s lost x false r more = (r ≡ s) × ((i : ℤ) → IsTrue (has_value (given s x) i) → IsTrue (has_value left i) → ⊥)
+abbrev pub Takes : List Span → WithLost → Item → Bool → WithLost → Type 0
+Takes left old x true new = IsTaken left old.state old.lost x new.state new.lost
+Takes left old x false new = (new.state ≡ old.state) × ((i : ℤ) → IsTrue (has_value (given old.state x) i) → IsTrue (has_value left i) → ⊥)
 
 -- The first so many items of a constraint have taken what its filter leaves, and these variables lost a value by it.
 pub record HasLeft (s : State) (c : Constraint) (many : ℕ) (r : State) (lost : List ℕ) : Type 0 where

@@ -9,7 +9,7 @@ ghost use Rattle.pi_settling.specs.Roots.{root_item};
 ghost use Rattle.pi_constraints.specs.Store.{Keeps};
 ghost use Rattle.pi_constraints.specs.State.{IsState, domain_of, with_binding, with_domain};
 ghost use Rattle.pi_queue.specs.Changes.{AreTold};
-ghost use Rattle.pi_queue.specs.Leaving.{IsWithin, IsLater, MayTake, Takes, MayLeave, LeavesAll, IsNarrower};
+ghost use Rattle.pi_queue.specs.Leaving.{IsWithin, IsLater, MayTake, Takes, MayLeave, LeavesAll, IsNarrower, lost_in, KeepsState};
 
 use pi_constraints::{Cell, Domain, Item, StateStore, contains, meet, min, size};
 use std::alloc::{AllocError, Global};
@@ -52,9 +52,9 @@ fn leave<S: StateStore>(
     ensures keeps { Keeps (S.seen s.old) (S.seen s.new) }
     ensures takes { IfOk result (λ some. (before left : List Span) → left ≡ unwrap_or told.now before →
         IsState (S.seen s.old).now.state → MayTake (S.seen s.old).now.state item before left →
-        Takes left (S.seen s.old).now.state lost.old.items (root_item (S.seen s.old).now.state item) some
-        (S.seen s.new).now.state lost.new.items) }
-    ensures err { OnErr result ((S.seen s.new).now.state ≡ (S.seen s.old).now.state) }
+        Takes left (lost_in (S.seen s.old) lost.old.items) (root_item (S.seen s.old).now.state item) some
+        (lost_in (S.seen s.new) lost.new.items)) }
+    ensures err { OnErr result (KeepsState (S.seen s.old) (S.seen s.new)) }
 {
     match told {
         Some(left) => {
@@ -75,9 +75,9 @@ fn leave_item<S: StateStore>(
 ) -> Result<bool, AllocError>
     ensures keeps { Keeps (S.seen s.old) (S.seen s.new) }
     ensures takes { IfOk result (λ some. IsState (S.seen s.old).now.state → IsLater (S.seen s.old).now.state item →
-        Takes left.now (S.seen s.old).now.state lost.old.items (root_item (S.seen s.old).now.state item) some
-        (S.seen s.new).now.state lost.new.items) }
-    ensures err { OnErr result ((S.seen s.new).now.state ≡ (S.seen s.old).now.state) }
+        Takes left.now (lost_in (S.seen s.old) lost.old.items) (root_item (S.seen s.old).now.state item) some
+        (lost_in (S.seen s.new) lost.new.items)) }
+    ensures err { OnErr result (KeepsState (S.seen s.old) (S.seen s.new)) }
 {
     match item {
         Item::Int(n) => Ok(contains(left, i128::from(n))),
@@ -109,9 +109,9 @@ fn leave_variable<S: StateStore>(
 ) -> Result<bool, AllocError>
     ensures keeps { Keeps (S.seen s.old) (S.seen s.new) }
     ensures takes { IfOk result (λ some. IsState (S.seen s.old).now.state → IsLater (S.seen s.old).now.state (Item.Var v) →
-        Takes left.now (S.seen s.old).now.state lost.old.items (root_item (S.seen s.old).now.state (Item.Var v)) some
-        (S.seen s.new).now.state lost.new.items) }
-    ensures err { OnErr result ((S.seen s.new).now.state ≡ (S.seen s.old).now.state) }
+        Takes left.now (lost_in (S.seen s.old) lost.old.items) (root_item (S.seen s.old).now.state (Item.Var v)) some
+        (lost_in (S.seen s.new) lost.new.items)) }
+    ensures err { OnErr result (KeepsState (S.seen s.old) (S.seen s.new)) }
 {
     let at = s.var_ref(v);
     match s.look(at) {
@@ -136,8 +136,8 @@ fn leave_unbound<S: StateStore>(
     ensures keeps { Keeps (S.seen s.old) (S.seen s.new) }
     ensures takes { IfOk result (λ some. (d : List Span) → IsState (S.seen s.old).now.state →
         domain_of (S.seen s.old).now.state v ≡ Some d →
-        Takes left.now (S.seen s.old).now.state lost.old.items (Item.Var v) some (S.seen s.new).now.state lost.new.items) }
-    ensures err { OnErr result ((S.seen s.new).now.state ≡ (S.seen s.old).now.state) }
+        Takes left.now (lost_in (S.seen s.old) lost.old.items) (Item.Var v) some (lost_in (S.seen s.new) lost.new.items)) }
+    ensures err { OnErr result (KeepsState (S.seen s.old) (S.seen s.new)) }
 {
     let at = s.var_ref(v);
     let found = s.domain(alloc, at)?;
@@ -159,9 +159,9 @@ fn keep<S: StateStore>(
 ) -> Result<bool, AllocError>
     ensures keeps { Keeps (S.seen s.old) (S.seen s.new) }
     ensures takes { IfOk result (λ some. IsState (S.seen s.old).now.state → domain_of (S.seen s.old).now.state v ≡ Some had.now →
-        IsWithin kept.now had.now → Takes kept.now (S.seen s.old).now.state lost.old.items (Item.Var v) some
-        (S.seen s.new).now.state lost.new.items) }
-    ensures err { OnErr result ((S.seen s.new).now.state ≡ (S.seen s.old).now.state) }
+        IsWithin kept.now had.now → Takes kept.now (lost_in (S.seen s.old) lost.old.items) (Item.Var v) some
+        (lost_in (S.seen s.new) lost.new.items)) }
+    ensures err { OnErr result (KeepsState (S.seen s.old) (S.seen s.new)) }
 {
     if have_one_size(had, kept) {
         return Ok(true);
@@ -182,7 +182,7 @@ fn write<S: StateStore>(s: &mut S, v: u64, kept: &Domain, least: i64) -> Result<
     ensures more { OnOk result ((d : List Span) → IsState (S.seen s.old).now.state →
         domain_of (S.seen s.old).now.state v ≡ Some d → 2 ≤ size_of kept.now →
         (S.seen s.new).now.state ≡ with_domain (S.seen s.old).now.state v kept.now) }
-    ensures err { OnErr result ((S.seen s.new).now.state ≡ (S.seen s.old).now.state) }
+    ensures err { OnErr result (KeepsState (S.seen s.old) (S.seen s.new)) }
 {
     if size(kept) == 1 {
         fix(s, v, least)?;
@@ -198,7 +198,7 @@ fn fix<S: StateStore>(s: &mut S, v: u64, n: i64) -> Result<(), AllocError>
     ensures keeps { Keeps (S.seen s.old) (S.seen s.new) }
     ensures ok { OnOk result ((d : List Span) → IsState (S.seen s.old).now.state → domain_of (S.seen s.old).now.state v ≡ Some d →
         (S.seen s.new).now.state ≡ with_binding (S.seen s.old).now.state v (int n)) }
-    ensures err { OnErr result ((S.seen s.new).now.state ≡ (S.seen s.old).now.state) }
+    ensures err { OnErr result (KeepsState (S.seen s.old) (S.seen s.new)) }
 {
     let value = s.put_int(i128::from(n))?;
     let at = s.var_ref(v);

@@ -6,7 +6,7 @@ ghost use Rattle.pi_settling.specs.Stable.{IsStable, IsEmptied};
 ghost use Rattle.pi_settling.specs.SettlingLaws.{MaySettle};
 ghost use Rattle.pi_settling.specs.Load.{count_lost};
 ghost use Rattle.pi_settling.specs.Runs.{MayPropagate, work_of};
-ghost use Rattle.pi_queue.specs.Ends.{numbers_below, Ends, IsUnderWay, KeepsWithin};
+ghost use Rattle.pi_queue.specs.Ends.{numbers_below, Ends, IsUnderWay, KeepsWithin, worked};
 
 use crate::due::Due;
 use crate::turn::turn;
@@ -29,7 +29,7 @@ pub fn propagate_from<S: StoredDomains>(
 ) -> Result<bool, PropStop>
     ensures keeps { Keeps (S.seen s.old) (S.seen s.new) }
     ensures ends { MayPropagate (S.seen s.old).now.state due.now →
-        Ends (S.seen s.old).now.state due.now limit work.old work.new (S.seen s.new).now.state result }
+        Ends (S.seen s.old).now.state due.now (worked limit work.old work.new) (S.seen s.new).now.state result }
     ensures domains { IfOk result (λ some. MayPropagate (S.seen s.old).now.state due.now →
         MatchBool some (IsStable (S.seen s.old).now.state (S.seen s.new).now.state) (IsEmptied (S.seen s.old).now.state)) }
     ensures bounded { MayPropagate (S.seen s.old).now.state due.now →
@@ -51,8 +51,8 @@ pub fn propagate<S: StoredDomains>(
 ) -> Result<bool, PropStop>
     ensures keeps { Keeps (S.seen s.old) (S.seen s.new) }
     ensures ends { IsState (S.seen s.old).now.state → MaySettle (S.seen s.old).now.state →
-        Ends (S.seen s.old).now.state (numbers_below (length (S.seen s.old).now.state.constraints)) limit work.old work.new
-        (S.seen s.new).now.state result }
+        Ends (S.seen s.old).now.state (numbers_below (length (S.seen s.old).now.state.constraints))
+        (worked limit work.old work.new) (S.seen s.new).now.state result }
     ensures domains { IfOk result (λ some. IsState (S.seen s.old).now.state → MaySettle (S.seen s.old).now.state →
         MatchBool some (IsStable (S.seen s.old).now.state (S.seen s.new).now.state) (IsEmptied (S.seen s.old).now.state)) }
     ensures bounded { IsState (S.seen s.old).now.state → MaySettle (S.seen s.old).now.state →
@@ -77,7 +77,7 @@ fn run_all<S: StoredDomains>(
 ) -> Result<bool, PropStop>
     ensures keeps { Keeps (S.seen s.old) (S.seen s.new) }
     ensures ends { MayPropagate (S.seen s.old).now.state waiting.old →
-        Ends (S.seen s.old).now.state waiting.old limit work.old work.new (S.seen s.new).now.state result }
+        Ends (S.seen s.old).now.state waiting.old (worked limit work.old work.new) (S.seen s.new).now.state result }
     ensures under_way { MayPropagate (S.seen s.old).now.state waiting.old →
         IsUnderWay (S.seen s.old).now.state waiting.old work.old work.new (S.seen s.new).now.state }
     ensures within { KeepsWithin limit work.old work.new }
