@@ -1,0 +1,3 @@
+pub mod LeftLemmas
+pub mod LookupLemmas
+pub mod StepLemmas

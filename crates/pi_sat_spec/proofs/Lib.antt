@@ -1,0 +1,6 @@
+pub mod CutLemmas
+pub mod InsideLemmas
+pub mod LiteralLemmas
+pub mod LogExamples
+pub mod LogLemmas
+pub mod PlaceLemmas

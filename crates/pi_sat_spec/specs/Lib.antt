@@ -1,0 +1,5 @@
+pub mod Domains
+pub mod Laws
+pub mod Literals
+pub mod Logs
+pub mod Solutions

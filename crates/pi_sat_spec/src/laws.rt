@@ -1,0 +1,3 @@
+//! Laws of the definitions, each a clause of a function that does nothing.
+
+pub mod logs;
