@@ -29,7 +29,7 @@ use Rattle.pi_resume_spec.specs.Resumed.{Search, simple, alternatives, chosen_se
 use Rattle.pi_resume_spec.specs.Searches.{Searches, SearchLevel, bottom, above, level_with, searches_at, below, plain_level, Spot, Tries, only, ticked_at, in_state, draining, strictly}
 use Rattle.pi_resume_spec.specs.ByName.{Offers, or_searched, handled_in, handling}
 use Rattle.pi_resume_spec.specs.Goals.{with_slot, after_arguments, after_term, succeeding, failing, ticking, predicate_by, calling, applying, with_list, strict, collecting, counting, catching, search, search_all, search_any}
-use Rattle.pi_resume_spec.specs.Rules.{guarded, applies_from, rule_searches, quiet_search, by_rules, body_or_agent, fact_search, pred_search, entered, call_search, searches_of, quiet_level, search_level}
+use Rattle.pi_resume_spec.specs.Rules.{guarded, applies_from, searched_by, rule_searches, rules_of, quiet_search, by_rules, body_or_agent, fact_search, pred_search, entered, call_search, searches_of, quiet_level, search_level}
 use Rattle.pi_resume_spec.specs.Queries.{solution, answered_with, query_start, query_search}
 use Rattle.pi_resume_spec.specs.LanguageLaws.{OneAtMost, IsGuided, AreGuided, IsGuidedLevel}
 use Rattle.pi_resume_spec.proofs.PlainGoals.{calls-plain}
@@ -228,7 +228,7 @@ each-applies b offered l h c s None = tt
 each-applies b offered l h c s (Some e) = each-guard b offered c.guard (record { level = l; slots = e; state = s }) h
 
 rules-guided : (b : Offers) → AreOffered b → (l : SearchLevel) → IsGuidedLevel l → (back : ClauseTree → Bool) (body : ℕ → ClauseTree → Spot → Search State) →
-    ((i : ℕ) (c : ClauseTree) (p : Spot) → Fine p → Guided Any (body i c p)) → (i : ℕ) (cs : List ClauseTree) (ts : Trees) (s : State) → RulesGuided Fine Any (rule_searches b l back body i cs ts s)
+    ((i : ℕ) (c : ClauseTree) (p : Spot) → Fine p → Guided Any (body i c p)) → (i : ℕ) (cs : List ClauseTree) (ts : Trees) (s : State) → RulesGuided Fine Any (rule_searches (searched_by b l back body) i cs ts s)
 unfolding rule_searches RulesGuided
 rules-guided b offered l h back body all i [] ts s = tt
 rules-guided b offered l h back body all i (c ∷ cs) ts s =
@@ -265,7 +265,7 @@ if-guided false t u a b = b
 pred-guided : (b : Offers) → AreOffered b → (l : SearchLevel) → IsGuidedLevel l → (pred : PredTree) (index : Option (List (List Mode))) (ts : Trees) (s : State) → Guided Any (pred_search b l pred index ts s)
 unfolding pred_search
 pred-guided b offered l h pred None ts s =
-    by-guided pred.quiet (rule_searches b l (λ c. backtracks c.back c.watches) (λ i c p. body_or_agent b (comp pred.name ts) i c c.watches p) 0 pred.clauses ts s)
+    by-guided pred.quiet (rule_searches (rules_of b l pred.name ts) 0 pred.clauses ts s)
     (rules-guided b offered l h (λ c. backtracks c.back c.watches) (λ i c p. body_or_agent b (comp pred.name ts) i c c.watches p) (λ i c p q. body-guided b offered (comp pred.name ts) i c c.watches p q) 0 pred.clauses ts s)
 pred-guided b offered l h pred (Some lists) ts s =
     if-guided (list_any (λ modes. fits_modes (bindings s) modes ts) lists) (alternatives (map (fact_search ts s) pred.clauses)) (simple done)

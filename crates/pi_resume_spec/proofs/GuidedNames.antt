@@ -1,5 +1,5 @@
 -- All names of the language are guided, where what later stages give is.
-use Rattle.std.specs.Prelude.{ℕ, Bool, true, false, cond, List, [], Option, Some, None, option_map, pos, codes}
+use Rattle.std.specs.Prelude.{◌≡◌, refl, ℕ, Bool, true, false, cond, List, [], Option, Some, None, option_map, pos, codes}
 use Rattle.std.specs.Option.{option_or}
 use Rattle.pi_terms.specs.Tree.{Tree, int, atom, comp, Trees, no_trees, tree, tree_count}
 use Rattle.pi_terms.specs.Copy.{copy, new_variables}
@@ -22,8 +22,8 @@ use Rattle.pi_meaning.specs.Shared.Calls as over_levels
 use Rattle.pi_meaning.specs.Shared.Calls.{Called, called_by, unknown_name, is_known, function_given}
 use Rattle.pi_meaning.specs.CoreMeaning.Instances.{core_setting}
 use Rattle.pi_resume_spec.specs.Resumed.{Search, simple, sequence, ticked}
-use Rattle.pi_resume_spec.specs.Searches.{SearchLevel, bottom, above, searches_at, too_deep}
-use Rattle.pi_resume_spec.specs.ByName.{LaterSearches, SearchSetting, plain_setting, built_in, given_later, predicate_given, predicate_called, handling, with_planner, known_called, Deeper, call_goal, catch_called, again_called, name_called, term_called, called_at_level, called_below, first_called, search_setting, all_names}
+use Rattle.pi_resume_spec.specs.Searches.{SearchLevel, bottom, above, plain_level, searches_at, too_deep}
+use Rattle.pi_resume_spec.specs.ByName.{LaterSearches, is_solve, later_search, SearchSetting, plain_setting, built_in, given_later, predicate_given, predicate_called, handling, with_planner, known_called, Deeper, call_goal, catch_called, again_called, name_called, term_called, called_at_level, called_below, first_called, search_setting, all_names}
 use Rattle.pi_resume_spec.specs.LanguageLaws.{OneAtMost, IsGuided, IsGuidedLevel, IsLater}
 use Rattle.pi_resume_spec.proofs.GuidedLemmas.{Guided, one-then, one-one, one-end, simple-guided, guided-sequence, guided-catch, guided-ticked}
 use Rattle.pi_resume_spec.proofs.GuidedGoals.{OptionGuided, OptionOne, AreOffered, Any, any-guided, guided-at, or-guided, one-settled, guided-handled}
@@ -60,11 +60,19 @@ if-option : (test : Bool) (o p : Option (Search State)) → OptionGuided o → O
 if-option true o p a b = a
 if-option false o p a b = b
 
+solve-guided : (later : LaterSearches) → IsLater later → (v : View) (l : SearchLevel) → IsGuidedLevel l → (name : List ℕ) (ts : Trees) (s : State) (b : Bool) → is_solve name (tree_count ts) ≡ b →
+    IsGuided (cond b (later.solves v l name ts s) (simple (later.plain.predicate v (plain_level l) name ts s)))
+solve-guided later is v l h name ts s true e = is.guided v l h name ts s e
+solve-guided later is v l h name ts s false e = simple-guided (later.plain.predicate v (plain_level l) name ts s) (is.others v (plain_level l) name ts s e)
+
+later-guided : (later : LaterSearches) → IsLater later → (v : View) (l : SearchLevel) → IsGuidedLevel l → (name : List ℕ) (ts : Trees) (s : State) → IsGuided (later_search later v l name ts s)
+later-guided later is v l h name ts s = solve-guided later is v l h name ts s (is_solve name (tree_count ts)) refl
+
 given-guided : (set : SearchSetting) → IsLater set.later → (l : SearchLevel) → IsGuidedLevel l → (name : List ℕ) (ts : Trees) (s : State) → OptionGuided (predicate_given set l name ts s)
 unfolding predicate_given
 given-guided set is l h name ts s =
     or-option (built_in set name ts s) (given_later set l name ts s) (effect-guided set.view s (built_in_predicate name ts s))
-    (if-option (is_later_predicate name (tree_count ts)) (Some (set.later.predicate set.view l name ts s)) None (is.guided set.view l h name ts s) tt)
+    (if-option (is_later_predicate name (tree_count ts)) (Some (later_search set.later set.view l name ts s)) None (later-guided set.later is set.view l h name ts s) tt)
 
 called-guided : (set : SearchSetting) → IsLater set.later → (l : SearchLevel) → IsGuidedLevel l → (name : List ℕ) (ts : Trees) (s : State) → IsGuided (predicate_called set l name ts s)
 unfolding predicate_called

@@ -1,17 +1,43 @@
 -- The laws of the paths of the core language.
-use Rattle.std.specs.Prelude.{ℕ, List, [], ◌∷◌, ◌++◌}
+use Rattle.std.specs.Prelude.{◌≡◌, ℕ, pos, codes, false, List, [], ◌∷◌, ◌++◌}
 use Rattle.std.proofs.Common.{subst, append-nil}
 use Rattle.pi_resume_spec.specs.Ways.{Ways}
 use Rattle.pi_resume_spec.specs.Resumed.{Following, on_way, reached, cut_off, bad, resumed, Leads}
 use Rattle.pi_resume_spec.specs.ByName.{all_names}
 use Rattle.pi_resume_spec.specs.Queries.{query_search}
-use Rattle.pi_resume_spec.specs.LanguageLaws.{PathsAddNothing, GoalsAddNothing, AnswersHaveTheirPaths, RunsResume}
+use Rattle.pi_resume_spec.specs.LanguageLaws.{NothingIsLater, SoundIsCommitted, PathsAddNothing, GoalsAddNothing, AnswersHaveTheirPaths, RunsResume}
 use Rattle.pi_resume_spec.proofs.ApartLemmas.{no_two_paths_are_one}
 use Rattle.pi_resume_spec.proofs.PlainGoals.{goal-plain}
 use Rattle.pi_resume_spec.proofs.PlainRules.{query-plain}
 use Rattle.pi_resume_spec.proofs.PlainNames.{names-plain}
 use Rattle.pi_resume_spec.proofs.GuidedGoals.{query-guided}
 use Rattle.pi_resume_spec.proofs.GuidedNames.{names-offered}
+use Rattle.pi_terms.specs.Tree.{atom, int, comp, no_trees, tree, tree_count}
+use Rattle.pi_constraints.specs.State.{State}
+use Rattle.pi_core.specs.CoreTree.{backtracks, ClauseTree}
+use Rattle.pi_meaning.specs.Traces.Trace.{Raise, Done}
+use Rattle.pi_meaning.specs.Shared.Level.{Applied}
+use Rattle.pi_meaning.specs.Shared.Calls.{unknown_name}
+use Rattle.pi_resume_spec.proofs.PlainGoals.{plain-simple}
+use Rattle.pi_resume_spec.proofs.GuidedLemmas.{simple-guided, one-end}
+
+-- ---- what is asked
+
+pub nothing-is-later : NothingIsLater
+nothing-is-later = record {
+  plain = λ v l name ts s e. plain-simple (unknown_name name (tree_count ts));
+  guided = λ v l h name ts s e. simple-guided (unknown_name name (tree_count ts)) (one-end State (Raise (comp (codes "unknown_name") (tree (atom name) (tree (int (pos (tree_count ts))) no_trees)))));
+  others = λ v l name ts s e. one-end State (Raise (comp (codes "unknown_name") (tree (atom name) (tree (int (pos (tree_count ts))) no_trees))));
+  functions = λ name ts s. one-end Applied Done;
+}
+
+backtracks-none : (c : ClauseTree) → c.back ≡ false → c.watches ≡ [] → backtracks c.back c.watches ≡ false
+backtracks-none c a b = cc
+
+pub sound-is-committed : SoundIsCommitted
+sound-is-committed preds sound pred has quiet c within =
+    let h = (sound.clauses pred has c within).quiet quiet in
+    backtracks-none c h.0 h.1
 
 pub paths-add-nothing : PathsAddNothing
 paths-add-nothing v later is program q committed d =

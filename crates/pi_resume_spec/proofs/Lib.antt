@@ -13,3 +13,4 @@ pub mod GuidedNames
 pub mod LanguageLemmas
 pub mod StageLemmas
 pub mod LanguageExamples
+pub mod StageExamples

@@ -4,7 +4,7 @@ use Rattle.pi_terms.specs.Tree.{var}
 use Rattle.pi_meaning.specs.Traces.Trace.{Call, end, note, ans, Done, Raise, Miss, Deep, Tick, Out, done, one, alt, then}
 use Rattle.pi_meaning.specs.Traces.Control.{chosen, caught}
 use Rattle.pi_resume_spec.specs.Ways.{Way, without_choices, choice_from}
-use Rattle.pi_resume_spec.specs.Resumed.{on_way, reached, cut_off, bad, Search, to_answer, simple, with_rest, follows_then, sequence, taken_from, alternatives, to_exception, with_handler, caught_search, RuleSearch, rules_ways, on_first, rules_taken, rules_search, ticked, resumed}
+use Rattle.pi_resume_spec.specs.Resumed.{a_tick, on_way, reached, cut_off, bad, Search, to_answer, simple, with_rest, follows_then, sequence, taken_from, alternatives, to_exception, with_handler, caught_search, RuleSearch, rules_ways, on_first, rules_taken, rules_search, ticked, resumed}
 
 -- a rule that applies, with this body
 abbrev rule : {A : Type 0} → Bool → Search A → RuleSearch ℕ A
@@ -26,19 +26,19 @@ member (x ∷ xs) = ticked (rules_search (rule false (simple (one x)) ∷ rule t
 calls-resume :
     ((p_search false).ways ≡ note Tick (ans (way (1 ∷ []) 1) (ans (way (2 ∷ []) 2) (end Done))))
     × ((p_search true).ways ≡ note Tick (ans (way (1 ∷ []) 1) (end Done)))
-    × ((p_search false).follows (1 ∷ []) ≡ on_way Tick (reached (1 ∷ []) 1 [] (ans (way (2 ∷ []) 2) (end Done))))
-    × ((p_search false).follows (2 ∷ []) ≡ on_way Tick (reached (2 ∷ []) 2 [] (end Done)))
-    × ((p_search false).follows (3 ∷ []) ≡ on_way Tick bad)
-    × ((p_search false).follows [] ≡ on_way Tick bad)
-    × ((p_search true).follows (2 ∷ []) ≡ on_way Tick bad)
-    × (resumed ((p_search false).follows (1 ∷ 1 ∷ [])) ≡ on_way Tick bad)
+    × ((p_search false).follows (1 ∷ []) ≡ on_way a_tick (reached (1 ∷ []) 1 [] (ans (way (2 ∷ []) 2) (end Done))))
+    × ((p_search false).follows (2 ∷ []) ≡ on_way a_tick (reached (2 ∷ []) 2 [] (end Done)))
+    × ((p_search false).follows (3 ∷ []) ≡ on_way a_tick bad)
+    × ((p_search false).follows [] ≡ on_way a_tick bad)
+    × ((p_search true).follows (2 ∷ []) ≡ on_way a_tick bad)
+    × (resumed ((p_search false).follows (1 ∷ 1 ∷ [])) ≡ on_way a_tick bad)
 unfolding rules_ways rules_taken on_first with_rest to_answer resumed then alt chosen
 calls-resume = (refl, refl, refl, refl, refl, refl, refl, refl)
 
 -- member(X,[7,8,9]) from 2.1: two Ticks on the way, and behind it what rule 2 of the second call gives
 members-resume :
     (member (7 ∷ 8 ∷ 9 ∷ [])).follows (2 ∷ 1 ∷ [])
-    ≡ on_way Tick (on_way Tick (reached (2 ∷ 1 ∷ []) 8 [] (note Tick (ans (way (2 ∷ 2 ∷ 1 ∷ []) 9) (note Tick (end Done))))))
+    ≡ on_way a_tick (on_way a_tick (reached (2 ∷ 1 ∷ []) 8 [] (note Tick (ans (way (2 ∷ 2 ∷ 1 ∷ []) 9) (note Tick (end Done))))))
 unfolding rules_ways rules_taken on_first with_rest to_answer then alt chosen
 members-resume = refl
 

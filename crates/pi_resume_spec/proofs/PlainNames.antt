@@ -23,7 +23,7 @@ use Rattle.pi_meaning.specs.Shared.Calls as over_levels
 use Rattle.pi_meaning.specs.Shared.Calls.{Called, called_by, unknown_name, is_known}
 use Rattle.pi_resume_spec.specs.Resumed.{Search, simple, sequence, ticked}
 use Rattle.pi_resume_spec.specs.Searches.{SearchLevel, bottom, above, searches_at, plain_level, without_paths, too_deep}
-use Rattle.pi_resume_spec.specs.ByName.{LaterSearches, SearchSetting, plain_setting, built_in, given_later, predicate_given, predicate_called, handled_in, handling, with_planner, known_called, Deeper, call_goal, catch_called, again_called, name_called, term_called, called_at_level, called_below, first_called, search_setting, all_names}
+use Rattle.pi_resume_spec.specs.ByName.{LaterSearches, is_solve, later_search, SearchSetting, plain_setting, built_in, given_later, predicate_given, predicate_called, handled_in, handling, with_planner, known_called, Deeper, call_goal, catch_called, again_called, name_called, term_called, called_at_level, called_below, first_called, search_setting, all_names}
 use Rattle.pi_resume_spec.specs.LanguageLaws.{IsLater}
 use Rattle.pi_resume_spec.proofs.PlainLemmas.{same-then, same-caught, plain_of_catch}
 use Rattle.pi_resume_spec.proofs.PlainGoals.{plain-simple, plain-sequence, calls-plain, ArePlain, or-plain}
@@ -44,14 +44,23 @@ built-same : (set : SearchSetting) (o : Option Effect) (s : State) → option_ma
 built-same set None s = refl
 built-same set (Some e) s = ap Some (plain-simple (settled_effect set.view s e))
 
+solve-or-not : (later : LaterSearches) → IsLater later → (v : View) (l : SearchLevel) (name : List ℕ) (ts : Trees) (s : State) (b : Bool) → is_solve name (tree_count ts) ≡ b →
+    without_paths (cond b (later.solves v l name ts s) (simple (later.plain.predicate v (plain_level l) name ts s))) ≡ later.plain.predicate v (plain_level l) name ts s
+solve-or-not later is v l name ts s true e = is.plain v l name ts s e
+solve-or-not later is v l name ts s false e = plain-simple (later.plain.predicate v (plain_level l) name ts s)
+
+later-same : (later : LaterSearches) → IsLater later → (v : View) (l : SearchLevel) (name : List ℕ) (ts : Trees) (s : State) →
+    without_paths (later_search later v l name ts s) ≡ later.plain.predicate v (plain_level l) name ts s
+later-same later is v l name ts s = solve-or-not later is v l name ts s (is_solve name (tree_count ts)) refl
+
 given-same : (set : SearchSetting) → IsLater set.later → (l : SearchLevel) (name : List ℕ) (ts : Trees) (s : State) →
     option_map without_paths (predicate_given set l name ts s) ≡ over_levels.predicate_given (plain_setting set) (plain_level l) name ts s
 unfolding predicate_given over_levels.predicate_given
 given-same set is l name ts s =
     or-same without_paths (built_in set name ts s) (given_later set l name ts s) (over_levels.built_in (plain_setting set) name ts s) (over_levels.given_later (plain_setting set) (plain_level l) name ts s)
     (built-same set (built_in_predicate name ts s) s)
-    (cond-same (option_map without_paths) (is_later_predicate name (tree_count ts)) (Some (set.later.predicate set.view l name ts s)) None
-    (Some (set.later.plain.predicate set.view (plain_level l) name ts s)) None (ap Some (is.plain set.view l name ts s)) refl)
+    (cond-same (option_map without_paths) (is_later_predicate name (tree_count ts)) (Some (later_search set.later set.view l name ts s)) None
+    (Some (set.later.plain.predicate set.view (plain_level l) name ts s)) None (ap Some (later-same set.later is set.view l name ts s)) refl)
 
 called-same : (set : SearchSetting) → IsLater set.later → (l : SearchLevel) (name : List ℕ) (ts : Trees) (s : State) →
     without_paths (predicate_called set l name ts s) ≡ over_levels.predicate_called (plain_setting set) (plain_level l) name ts s

@@ -26,7 +26,7 @@ use Rattle.pi_resume_spec.specs.Resumed.{Search, simple, ways_of, alternatives, 
 use Rattle.pi_resume_spec.specs.Searches.{Searches, SearchLevel, level_with, plain_calls, plain_level, Spot, point_of, without_paths, strictly}
 use Rattle.pi_resume_spec.specs.ByName.{Offers}
 use Rattle.pi_resume_spec.specs.Goals.{search}
-use Rattle.pi_resume_spec.specs.Rules.{guarded, applies_from, rule_searches, quiet_search, by_rules, body_or_agent, fact_search, pred_search, entered, call_search, searches_of, quiet_level, search_level}
+use Rattle.pi_resume_spec.specs.Rules.{guarded, applies_from, searched_by, rule_searches, rules_of, quiet_search, by_rules, body_or_agent, fact_search, pred_search, entered, call_search, searches_of, quiet_level, search_level}
 use Rattle.pi_resume_spec.specs.Queries.{answered_with, query_start, query_search}
 use Rattle.pi_resume_spec.specs.LanguageLaws.{QuietIsCommitted}
 use Rattle.pi_resume_spec.proofs.PlainLemmas.{same-then, then-renamed, plain_of_choice, plain_of_rules}
@@ -72,12 +72,12 @@ first-rule b same l c back body does all s later rest is (Some e) =
 
 pub rules-plain : {X : Type 0} (b : Offers) → ArePlain b → (l : SearchLevel) (back : ClauseTree → Bool) (body : ℕ → ClauseTree → Spot → Search X) (does : ℕ → ClauseTree → Point → Trace X) →
     ((i : ℕ) (c : ClauseTree) (p : Spot) → without_paths (body i c p) ≡ does i c (point_of p)) → (k i : ℕ) (cs : List ClauseTree) (ts : Trees) (s : State) →
-    plain (rules_ways k (rule_searches b l back body i cs ts s)) ≡ rules (rules_by b.plain (plain_level l) back does) i cs ts s
+    plain (rules_ways k (rule_searches (searched_by b l back body) i cs ts s)) ≡ rules (rules_by b.plain (plain_level l) back does) i cs ts s
 unfolding rule_searches rules rules_ways then
 rules-plain b same l back body does all k i [] ts s = refl
 rules-plain b same l back body does all k i (c ∷ cs) ts s =
     let o = matched_all_in (bindings s) c.head ts (replicate c.slots None) in
-    let more = rule_searches b l back body (suc i) cs ts s in
+    let more = rule_searches (searched_by b l back body) (suc i) cs ts s in
     plain_of_rules k (record { applies = applies_from b l c s o; committed = opposite (back c); body = body i c }) more
     ∙ first-rule b same l c (back c) (body i c) (does i c) (all i c) s (rules_ways (suc k) more) (rules (rules_by b.plain (plain_level l) back does) (suc i) cs ts s)
     (rules-plain b same l back body does all (suc k) (suc i) cs ts s) o
@@ -106,12 +106,12 @@ AreCommitted back cs = (c : ClauseTree) → Contains cs c → back c ≡ false
 
 quiet-plain : {X : Type 0} (b : Offers) → ArePlain b → (l : SearchLevel) (back : ClauseTree → Bool) (body : ℕ → ClauseTree → Spot → Search X) (does : ℕ → ClauseTree → Point → Trace X) →
     ((i : ℕ) (c : ClauseTree) (p : Spot) → without_paths (body i c p) ≡ does i c (point_of p)) → (i : ℕ) (cs : List ClauseTree) → AreCommitted back cs → (ts : Trees) (s : State) →
-    without_paths (quiet_search (rule_searches b l back body i cs ts s)) ≡ rules (rules_by b.plain (plain_level l) back does) i cs ts s
+    without_paths (quiet_search (rule_searches (searched_by b l back body) i cs ts s)) ≡ rules (rules_by b.plain (plain_level l) back does) i cs ts s
 unfolding rule_searches rules quiet_search then
 quiet-plain b same l back body does all i [] committed ts s = refl
 quiet-plain b same l back body does all i (c ∷ cs) committed ts s =
     let o = matched_all_in (bindings s) c.head ts (replicate c.slots None) in
-    let more = quiet_search (rule_searches b l back body (suc i) cs ts s) in
+    let more = quiet_search (rule_searches (searched_by b l back body) (suc i) cs ts s) in
     plain-chosen (applies_from b l c s o) (body i c) more
     ∙ quiet-rule b same l c (back c) (committed c (has-first c cs)) (body i c) (does i c) (all i c) s (without_paths more) (rules (rules_by b.plain (plain_level l) back does) (suc i) cs ts s)
     (quiet-plain b same l back body does all (suc i) cs (λ d within. committed d (has-later c d cs within)) ts s) o
@@ -140,7 +140,7 @@ cond-plain true t u is = is
 cond-plain false t u is = refl
 
 by-rules-plain : (b : Offers) → ArePlain b → (l : SearchLevel) (quiet : Bool) (name : List ℕ) (cs : List ClauseTree) → (IsTrue quiet → AreCommitted (λ c. backtracks c.back c.watches) cs) → (ts : Trees) (s : State) →
-    without_paths (by_rules quiet (rule_searches b l (λ c. backtracks c.back c.watches) (λ i c p. body_or_agent b (comp name ts) i c c.watches p) 0 cs ts s))
+    without_paths (by_rules quiet (rule_searches (rules_of b l name ts) 0 cs ts s))
     ≡ rules (rules_by b.plain (plain_level l) (λ c. backtracks c.back c.watches) (λ i c p. core.body_or_agent b.plain (comp name ts) i c c.watches p)) 0 cs ts s
 by-rules-plain b same l true name cs committed ts s =
     quiet-plain b same l (λ c. backtracks c.back c.watches) (λ i c p. body_or_agent b (comp name ts) i c c.watches p) (λ i c p. core.body_or_agent b.plain (comp name ts) i c c.watches p)

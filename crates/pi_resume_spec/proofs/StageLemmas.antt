@@ -211,5 +211,16 @@ unfolding drained_from
 drained-guided l h s [] = any-guided (only (with_waiting s [])) (simple-guided (one (with_waiting s [])) (one-one (with_waiting s [])))
 drained-guided l h s (a ∷ rest) = woken-guided l h (with_waiting s rest) a (living s a.agent) (drained_from (Some l) s rest) (drained-guided l h s rest)
 
+-- at the lowest depth what waits and is alive ends at once
+woken-lowest : (X : Type 0) (s : State) (a : Activation) (o : Option Agent) (later : Search State) → IsGuided later → IsGuided (woken {X = X} None s a o later)
+woken-lowest X s a None later g = g
+woken-lowest X s a (Some agent) later g = simple-guided (end Deep) (one-end State Deep)
+
+drained-lowest : (X : Type 0) (s : State) (as_ : List Activation) → IsGuided (drained_from {X = X} None s as_)
+unfolding drained_from
+drained-lowest X s [] = simple-guided (one (with_waiting s [])) (one-one (with_waiting s []))
+drained-lowest X s (a ∷ rest) = woken-lowest X (with_waiting s rest) a (living s a.agent) (drained_from {X = X} None s rest) (drained-lowest X s rest)
+
 pub draining-is-guided : {X : Type 0} → DrainingIsGuided X
-draining-is-guided l h s = (drained-guided l h s s.waiting).guided
+draining-is-guided {X = X} None h s = drained-lowest X s s.waiting
+draining-is-guided (Some l) h s = (drained-guided l h s s.waiting).guided

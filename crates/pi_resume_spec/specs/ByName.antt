@@ -1,6 +1,7 @@
 -- Calls by name, as searches: as `Shared.Calls` of the meaning has them. What is built in makes no choice; what later stages of the language give is handed in. (Own.)
-use Rattle.std.specs.Prelude.{ℕ, Bool, false, cond, List, [], Option, Some, None, codes, option_map}
+use Rattle.std.specs.Prelude.{ℕ, ◌==◌, ◌&&◌, ◌||◌, Bool, false, cond, List, [], Option, Some, None, codes, option_map}
 use Rattle.std.specs.Option.{option_or}
+use Rattle.std.specs.Str.{bytes_eq}
 use Rattle.pi_terms.specs.Tree.{Tree, Trees, no_trees, tree, tree_count}
 use Rattle.pi_terms.specs.Copy.{copy, new_variables}
 use Rattle.pi_constraints.specs.State.{State, bindings, followed, next}
@@ -18,14 +19,25 @@ use Rattle.pi_meaning.specs.Shared.Names.{is_later_predicate, is_planner, is_cat
 use Rattle.pi_meaning.specs.Shared.Given.{Later, Setting}
 use Rattle.pi_meaning.specs.Shared.Calls.{Called, called_by, unknown_name, is_known}
 use Rattle.pi_meaning.specs.CoreMeaning.Builtins.{Builtins}
-use Rattle.pi_meaning.specs.CoreMeaning.Instances.{is_called_by_name, whole}
+use Rattle.pi_meaning.specs.CoreMeaning.Instances.{is_called_by_name, no_later, whole}
 use Rattle.pi_resume_spec.specs.Resumed.{Search, simple, sequence, caught_search, ticked}
-use Rattle.pi_resume_spec.specs.Searches.{SearchLevel, bottom, above, searches_at, too_deep}
+use Rattle.pi_resume_spec.specs.Searches.{SearchLevel, bottom, above, plain_level, searches_at, too_deep}
 
--- what later stages give, with paths and without
+-- What later stages give. Of their goals labelling alone makes choices, so `solve` is handed in with its paths; every other one has an answer at most, and none.
 pub record LaterSearches : Type 0 where
-  pub predicate : View → SearchLevel → List ℕ → Trees → State → Search State
   pub plain : Later
+  pub solves : View → SearchLevel → List ℕ → Trees → State → Search State
+
+abbrev pub is_solve : List ℕ → ℕ → Bool
+is_solve name k = (k == 1 || k == 2) && bytes_eq name (codes "solve")
+
+-- what such a goal does
+abbrev pub later_search : LaterSearches → View → SearchLevel → List ℕ → Trees → State → Search State
+later_search later v l name ts s = cond (is_solve name (tree_count ts)) (later.solves v l name ts s) (simple (later.plain.predicate v (plain_level l) name ts s))
+
+-- no later stage is there
+abbrev pub nothing_later : LaterSearches
+nothing_later = record { plain = no_later; solves = λ v l name ts s. simple (unknown_name name (tree_count ts)) }
 
 pub record SearchSetting : Type 0 where
   pub view : View
@@ -44,7 +56,7 @@ abbrev pub built_in : SearchSetting → List ℕ → Trees → State → Option 
 built_in set name ts s = option_map (λ e. simple (settled_effect set.view s e)) (built_in_predicate name ts s)
 
 abbrev pub given_later : SearchSetting → SearchLevel → List ℕ → Trees → State → Option (Search State)
-given_later set l name ts s = cond (is_later_predicate name (tree_count ts)) (Some (set.later.predicate set.view l name ts s)) None
+given_later set l name ts s = cond (is_later_predicate name (tree_count ts)) (Some (later_search set.later set.view l name ts s)) None
 
 unfoldable pub predicate_given : SearchSetting → SearchLevel → List ℕ → Trees → State → Option (Search State)
 predicate_given set l name ts s = option_or (built_in set name ts s) (given_later set l name ts s)

@@ -1,18 +1,20 @@
 -- The laws of the paths of the core language. (Own.)
-use Rattle.std.specs.Prelude.{◌≡◌, ◌≢◌, ℕ, ◌≤◌, false, List, [], ◌++◌, length, Contains, IsTrue, AllPairs}
-use Rattle.pi_terms.specs.Tree.{Trees}
+use Rattle.std.specs.Prelude.{◌≡◌, ◌≢◌, ℕ, ◌≤◌, true, false, List, [], ◌++◌, length, Contains, IsTrue, AllPairs}
+use Rattle.pi_terms.specs.Tree.{Trees, tree_count}
 use Rattle.pi_constraints.specs.State.{State}
 use Rattle.pi_core.specs.GoalTree.{GoalTree}
 use Rattle.pi_core.specs.CoreTree.{backtracks, ClauseTree, PredTree, QueryTree}
 use Rattle.pi_meaning.specs.Traces.Trace.{Trace, then, one, answers}
+use Rattle.pi_meaning.specs.Shared.Level.{Level}
 use Rattle.pi_meaning.specs.Shared.View.{View}
+use Rattle.pi_meaning.specs.CoreMeaning.Sound.{IsSound}
 use Rattle.pi_meaning.specs.CoreMeaning.Instances.{whole}
 use Rattle.pi_meaning.specs.CoreMeaning.Meaning.{meaning}
 use Rattle.pi_meaning.specs.CoreMeaning.Run.{Solution, query_trace}
 use Rattle.pi_resume_spec.specs.Ways.{Way, Ways, Apart}
 use Rattle.pi_resume_spec.specs.Resumed.{Search, resumed, At, Leads, IsResumable}
 use Rattle.pi_resume_spec.specs.Searches.{Searches, SearchLevel, bottom, above, Spot, point_of, plain_level, without_paths}
-use Rattle.pi_resume_spec.specs.ByName.{LaterSearches, all_names}
+use Rattle.pi_resume_spec.specs.ByName.{LaterSearches, is_solve, nothing_later, all_names}
 use Rattle.pi_resume_spec.specs.Goals.{search}
 use Rattle.pi_resume_spec.specs.Queries.{query_search}
 
@@ -36,11 +38,12 @@ unfoldable pub IsGuidedLevel : SearchLevel → Type 0
 IsGuidedLevel (bottom c) = AreGuided c
 IsGuidedLevel (above c l) = AreGuided c × IsGuidedLevel l
 
--- What later stages give with paths is what they give without them, and is guided where the calls are.
+-- What later stages owe: `solve` with its paths is what it is without them, and is guided where the calls are; every other goal of theirs has one answer at most.
 pub record IsLater (later : LaterSearches) : Type 0 where
-  pub plain : (v : View) (l : SearchLevel) (name : List ℕ) (ts : Trees) (s : State) →
-      without_paths (later.predicate v l name ts s) ≡ later.plain.predicate v (plain_level l) name ts s
-  pub guided : (v : View) (l : SearchLevel) → IsGuidedLevel l → (name : List ℕ) (ts : Trees) (s : State) → IsGuided (later.predicate v l name ts s)
+  pub plain : (v : View) (l : SearchLevel) (name : List ℕ) (ts : Trees) (s : State) → is_solve name (tree_count ts) ≡ true →
+      without_paths (later.solves v l name ts s) ≡ later.plain.predicate v (plain_level l) name ts s
+  pub guided : (v : View) (l : SearchLevel) → IsGuidedLevel l → (name : List ℕ) (ts : Trees) (s : State) → is_solve name (tree_count ts) ≡ true → IsGuided (later.solves v l name ts s)
+  pub others : (v : View) (l : Level) (name : List ℕ) (ts : Trees) (s : State) → is_solve name (tree_count ts) ≡ false → OneAtMost (later.plain.predicate v l name ts s)
   pub functions : (name : List ℕ) (ts : Trees) (s : State) → OneAtMost (later.plain.function name ts s)
 
 -- a quiet predicate, which is made for a loop, has committed rules alone, as in each sound program
@@ -48,6 +51,13 @@ abbrev pub QuietIsCommitted : List PredTree → Type 0
 QuietIsCommitted preds = (pred : PredTree) → Contains preds pred → IsTrue pred.quiet → (c : ClauseTree) → Contains pred.clauses c → backtracks c.back c.watches ≡ false
 
 -- ---- laws
+
+-- where no later stage is there, this is met; and sound programs meet the premise on quiet predicates
+abbrev pub NothingIsLater : Type 0
+NothingIsLater = IsLater nothing_later
+
+abbrev pub SoundIsCommitted : Type 0
+SoundIsCommitted = (preds : List PredTree) → IsSound preds → QuietIsCommitted preds
 
 -- without its paths a query's search is its trace, at each depth
 abbrev pub PathsAddNothing : Type 0

@@ -6,18 +6,23 @@ use Rattle.pi_meaning.specs.Traces.Trace.{Trace, end, note, ans, End, Done, Rais
 use Rattle.pi_meaning.specs.Traces.Control.{caught, chosen}
 use Rattle.pi_resume_spec.specs.Ways.{Way, Ways, here, behind, numbered, followed_by, choice_from, choice, catching}
 
--- What a goal does that follows numbers: notes on the way; then the answer that it leads to, with the choices that were made in the goal, the numbers that are left,
+-- what counts on the way: Ticks, and propagations with their loads. What is written there is dropped
+pub data Passing : Type 0 where
+  a_tick : Passing
+  a_load : ℕ → Passing
+
+-- What a goal does that follows numbers: what counts on the way; then the answer that it leads to, with the choices that were made in the goal, the numbers that are left,
 -- and what stands behind that answer in the goal; or an end before it, which is one of a run that isn't known to go on, or a bad path.
 pub data Following (A : Type 0) : Type 0 where
-  on_way : Note → Following A → Following A
+  on_way : Passing → Following A → Following A
   reached : List ℕ → A → List ℕ → Ways A → Following A
   cut_off : End → Following A
   bad : Following A
 
 -- outputs on the way are dropped
 abbrev pub passed : {A : Type 0} → Note → Following A → Following A
-passed Tick f = on_way Tick f
-passed (Load k) f = on_way (Load k) f
+passed Tick f = on_way a_tick f
+passed (Load k) f = on_way (a_load k) f
 passed (Out text) f = f
 
 -- an end before the answer: of a run that a missing planner call or the depth stops, that; any other makes the path bad
@@ -148,7 +153,7 @@ rules_search rs = record { ways = rules_ways 1 rs; follows = rules_followed rs }
 
 -- a Tick in front, which counts on the way too: that of a call before its rules or facts, and that of an alternative of a labelling
 abbrev pub ticked : {A : Type 0} → Search A → Search A
-ticked s = record { ways = note Tick s.ways; follows = λ p. on_way Tick (s.follows p) }
+ticked s = record { ways = note Tick s.ways; follows = λ p. on_way a_tick (s.follows p) }
 
 -- ---- a condition, which is no choice: what follows its first answer, or the other goal; so it is of the rules of a quiet call, which are all committed
 

@@ -31,15 +31,25 @@ abbrev pub applies_from : Offers → SearchLevel → ClauseTree → State → Op
 applies_from b l c s None = done
 applies_from b l c s (Some e) = guarded b c.guard (record { level = l; slots = e; state = s })
 
--- the rules in order, each by its number
-unfoldable pub rule_searches : {X : Type 0} → Offers → SearchLevel → (ClauseTree → Bool) → (ℕ → ClauseTree → Spot → Search X) → ℕ → List ClauseTree → Trees → State → List (RuleSearch Spot X)
-rule_searches b l back does i [] ts s = []
-rule_searches b l back does i (c ∷ cs) ts s =
+-- how rules are tried: what is built in, the level, which of them aren't committed, and what the body of one does, by its number
+pub record RulesBy (X : Type 0) : Type 0 where
+  pub offers : Offers
+  pub level : SearchLevel
+  pub back : ClauseTree → Bool
+  pub body : ℕ → ClauseTree → Spot → Search X
+
+abbrev pub searched_by : {X : Type 0} → Offers → SearchLevel → (ClauseTree → Bool) → (ℕ → ClauseTree → Spot → Search X) → RulesBy X
+searched_by b l back body = record { offers = b; level = l; back = back; body = body }
+
+-- the rules in order
+unfoldable pub rule_searches : {X : Type 0} → RulesBy X → ℕ → List ClauseTree → Trees → State → List (RuleSearch Spot X)
+rule_searches by i [] ts s = []
+rule_searches by i (c ∷ cs) ts s =
     record {
-      applies = applies_from b l c s (matched_all_in (bindings s) c.head ts (replicate c.slots None));
-      committed = opposite (back c);
-      body = does i c;
-    } ∷ rule_searches b l back does (suc i) cs ts s
+      applies = applies_from by.offers by.level c s (matched_all_in (bindings s) c.head ts (replicate c.slots None));
+      committed = opposite (by.back c);
+      body = by.body i c;
+    } ∷ rule_searches by (suc i) cs ts s
 
 -- rules that are all committed and whose numbers count for nothing: the first that applies
 unfoldable pub quiet_search : {X A : Type 0} → List (RuleSearch X A) → Search A
@@ -58,6 +68,9 @@ abbrev pub body_or_agent : Offers → Tree → ℕ → ClauseTree → List SlotW
 body_or_agent b the_call i c [] p = body_search b c p
 body_or_agent b the_call i c (w ∷ ws) p = only (suspended the_call i (w ∷ ws) p.slots p.state)
 
+abbrev pub rules_of : Offers → SearchLevel → List ℕ → Trees → RulesBy State
+rules_of b l name ts = searched_by b l (λ c. backtracks c.back c.watches) (λ i c p. body_or_agent b (comp name ts) i c c.watches p)
+
 -- facts, each a choice, whether or not it unifies
 abbrev pub fact_search : Trees → State → ClauseTree → Search State
 fact_search ts s c = simple (settled_from s (option_and_then (unified_with ts) (fact_terms c.head (replicate c.slots None) s)))
@@ -67,7 +80,7 @@ facts_search lists cs ts s = cond (list_any (λ modes. fits_modes (bindings s) m
 
 unfoldable pub pred_search : Offers → SearchLevel → PredTree → Option (List (List Mode)) → Trees → State → Search State
 pred_search b l pred None ts s =
-    by_rules pred.quiet (rule_searches b l (λ c. backtracks c.back c.watches) (λ i c p. body_or_agent b (comp pred.name ts) i c c.watches p) 0 pred.clauses ts s)
+    by_rules pred.quiet (rule_searches (rules_of b l pred.name ts) 0 pred.clauses ts s)
 pred_search b l pred (Some lists) ts s = facts_search lists pred.clauses ts s
 
 -- ---- calls, and levels

@@ -1,5 +1,5 @@
 -- The laws of the paths of labelling and draining.
-use Rattle.std.specs.Prelude.{◌≡◌, ℕ, List, Option, Some, option_map}
+use Rattle.std.specs.Prelude.{◌≡◌, ℕ, List, Option, Some, None, option_map}
 use Rattle.pi_terms.specs.Tree.{Tree}
 use Rattle.pi_constraints.specs.State.{State}
 use Rattle.pi_constraints.specs.declared.constraint.Item.{Item}
@@ -53,5 +53,9 @@ pub record IsGuidedLower {X : Type 0} (l : Lower X) : Type 0 where
   pub anew : (t : Tree) (s : State) → IsGuided (l.rules.anew t s)
   pub drains : (s : State) → IsGuided (l.drains s)
 
+abbrev pub IsGuidedBelow : {X : Type 0} → Option (Lower X) → Type 0
+IsGuidedBelow None = Unit {0}
+IsGuidedBelow (Some l) = IsGuidedLower l
+
 abbrev pub DrainingIsGuided : Type 0 → Type 0
-DrainingIsGuided X = (l : Lower X) → IsGuidedLower l → (s : State) → IsGuided (drained (Some l) s)
+DrainingIsGuided X = (below : Option (Lower X)) → IsGuidedBelow below → (s : State) → IsGuided (drained below s)

@@ -1,5 +1,11 @@
 //! Laws of the paths of the core language.
-ghost use Rattle.pi_resume_spec.specs.LanguageLaws.{PathsAddNothing, GoalsAddNothing, AnswersHaveTheirPaths, RunsResume};
+ghost use Rattle.pi_resume_spec.specs.LanguageLaws.{NothingIsLater, SoundIsCommitted, PathsAddNothing, GoalsAddNothing, AnswersHaveTheirPaths, RunsResume};
+
+/// What the laws ask of later stages is met where there are none, and what they ask of quiet predicates by sound programs.
+pub fn what_is_asked_is_met()
+    ensures later { NothingIsLater }
+    ensures quiet { SoundIsCommitted }
+{}
 
 /// Without their paths a query's answers are those of its trace, with all that stands between them; and so it is of each goal, from
 /// each place in a run.
