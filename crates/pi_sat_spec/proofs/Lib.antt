@@ -1,4 +1,5 @@
 pub mod CutLemmas
+pub mod FixedLemmas
 pub mod InsideLemmas
 pub mod LiteralLemmas
 pub mod LogExamples
