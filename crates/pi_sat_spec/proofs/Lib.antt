@@ -1,4 +1,6 @@
 pub mod CutLemmas
+pub mod FixedLemmas
+pub mod GrowLemmas
 pub mod InsideLemmas
 pub mod LiteralLemmas
 pub mod LogExamples

@@ -1,6 +1,11 @@
 -- Small logs, worked through the definitions.
-use Rattle.std.specs.Prelude.{◌≡◌, ◌≢◌, ℕ, zero, suc, true, false, IsTrue, List, [], ◌∷◌, ℤ, pos, negsuc, Contains, refl}
-use Rattle.std.proofs.Common.{arith}
+use Rattle.std.specs.Prelude.{slice_get, take, Some}
+use Rattle.std.proofs.lemmas.Option.{get_or_from_slice_get}
+use Rattle.pi_prop_spec.specs.Ends.{greatest_of}
+use Rattle.pi_prop_spec.specs.Laws.{AreDomainsOf, HaveValuesOf, AreFixedBy}
+use Rattle.pi_prop_spec.proofs.FilterLemmas.{filters_are_decisive}
+use Rattle.std.specs.Prelude.{◌≡◌, ◌≢◌, ℕ, zero, suc, ◌<◌, true, false, IsTrue, List, [], ◌∷◌, length, ℤ, pos, negsuc, Contains, refl}
+use Rattle.std.proofs.Common.{arith, subst, inr}
 use Rattle.std.proofs.lemmas.Int.{ints}
 use Rattle.std.proofs.lemmas.List.Elements.{All-nil, All-cons}
 use Rattle.pi_constraints.specs.declared.constraint.Rel.{Rel}
@@ -9,14 +14,14 @@ use Rattle.pi_constraints.specs.declared.constraint.Constraint.{Constraint}
 use Rattle.pi_constraints.specs.declared.var_domain.VarDomain.{VarDomain}
 use Rattle.pi_constraints.specs.Domain.{IsDomain, AscendFrom, has_value, overlap, common, shared}
 use Rattle.pi_constraints.specs.Constraint.{IsSum, IsWithinLimits}
-use Rattle.pi_prop_spec.specs.Places.{sum_places, places_of}
+use Rattle.pi_prop_spec.specs.Places.{sum_places, places_of, domain_at}
 use Rattle.pi_prop_spec.specs.Solutions.{sum_of, Holds}
 use Rattle.pi_sat_spec.specs.declared.entry.SatEntry.{SatEntry}
 use Rattle.pi_sat_spec.specs.declared.literal.Literal.{Literal}
 use Rattle.pi_sat_spec.specs.Literals.{left_by}
-use Rattle.pi_sat_spec.specs.Domains.{domain_of, cut, refuted, has_empty, AreDomains}
+use Rattle.pi_sat_spec.specs.Domains.{AreDomains, IsLemma, at_places, cut, domain_of, has_empty, refuted}
 use Rattle.pi_sat_spec.specs.Solutions.{MaySearch, IsSolution}
-use Rattle.pi_sat_spec.specs.Logs.{leads_on, IsRightLog}
+use Rattle.pi_sat_spec.specs.Logs.{IsRightEntry, IsRightLog, Refutes, leads_on}
 use Rattle.pi_sat_spec.proofs.LogLemmas.{none_over_right_log}
 
 abbrev from_to : ℕ → ℕ → ℕ → VarDomain
@@ -103,3 +108,54 @@ one-solved = record {
 
 empty-lemma-alone : IsRightLog one (at_most_two ∷ []) (given [] ∷ []) → ⊥
 empty-lemma-alone right = none_over_right_log one (at_most_two ∷ []) (given [] ∷ []) always_one one-domains one-searched right one-solved
+
+-- X in 1..1 and X <= 0: that log is right
+abbrev fixed : List VarDomain
+fixed = from_to 0 1 1 ∷ []
+
+abbrev at_most_zero : Constraint
+at_most_zero = Constraint.Linear Rel.AtMost ((pos 1, 0) ∷ []) (pos 0)
+
+zero-limits : IsWithinLimits at_most_zero
+unfolding IsSum
+zero-limits = (λ e. cc, omega arith, (λ e. cc, omega arith, omega arith, tt), omega arith)
+
+fixed-domain : (k : ℕ) → k < length (at_places fixed at_most_zero) → IsDomain (domain_at (at_places fixed at_most_zero) k)
+unfolding AscendFrom domain_of sum_places
+fixed-domain zero l = (omega (arith, ints), omega (arith, ints), omega (arith, ints), tt)
+fixed-domain (suc k) l = absurd (omega arith)
+
+fixed-places : AreDomainsOf at_most_zero (at_places fixed at_most_zero)
+unfolding AscendFrom domain_of sum_places
+fixed-places = record { count = refl; domains = fixed-domain }
+
+fixed-values : HaveValuesOf at_most_zero always_one (at_places fixed at_most_zero)
+unfolding always_one has_value domain_of sum_places
+fixed-values zero l = refl
+fixed-values (suc k) l = absurd (omega arith)
+
+fixed-alone : AreFixedBy at_most_zero always_one (at_places fixed at_most_zero)
+unfolding always_one domain_of sum_places greatest_of
+fixed-alone zero l = (refl, refl)
+fixed-alone (suc k) l = absurd (omega arith)
+
+one-is-more : Holds at_most_zero always_one → ⊥
+unfolding always_one sum_of
+one-is-more h = omega (arith, ints, h)
+
+fixed-refuted : Refutes at_most_zero (refuted fixed [])
+unfolding refuted
+fixed-refuted = inr ((filters_are_decisive at_most_zero (at_places fixed at_most_zero) always_one zero-limits fixed-places fixed-values fixed-alone).1 one-is-more)
+
+no-bounds : IsLemma fixed []
+no-bounds = record { ascends = λ k other l. absurd (omega arith); bounds = All-nil (λ (l : Literal). IsTrue (has_value (domain_of fixed l.var) l.bound)) }
+
+right-entry : (k : ℕ) (e : SatEntry) → slice_get (given [] ∷ []) k ≡ Some e → IsRightEntry fixed (at_most_zero ∷ []) (take k (given [] ∷ [])) e
+right-entry zero e is = subst (λ (x : SatEntry). IsRightEntry fixed (at_most_zero ∷ []) [] x) (get_or_from_slice_get (given [] ∷ []) 0 e (given []) is) (no-bounds, (at_most_zero, refl, fixed-refuted))
+right-entry (suc k) e is = absurd (cc)
+
+empty-lemma-right : IsRightLog fixed (at_most_zero ∷ []) (given [] ∷ [])
+empty-lemma-right = record {
+  entries = right-entry;
+  last = (given [], refl, refl);
+}

@@ -1,4 +1,5 @@
 pub mod Domains
+pub mod Fixed
 pub mod Laws
 pub mod Literals
 pub mod Logs
