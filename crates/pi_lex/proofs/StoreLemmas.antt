@@ -17,6 +17,10 @@ use Rattle.pi_syntax.specs.Tokens.{Var, Atom, Word, Int, Str, Sign}
 pub string_len-bytes : (s : String Global) → string_len s ≡ length (string_bytes s)
 string_len-bytes s = s.bytes.ok.0
 
+-- named by the tactics of two functions
+pub encode_short : (c : ℕ) → length (encode_utf8 c) ≤ 4
+encode_short c = omega (arith, length-encode c, len_utf8_bounds c)
+
 -- what was appended is a span
 pub IsSpan-appended : (old new w : List ℕ) (from len : ℕ) → new ≡ old ++ w → from ≡ length old → len ≡ length new - from → IsUtf8 old → IsUtf8 new
     → IsSpan new (span from len)
