@@ -10,9 +10,8 @@ use Rattle.std.specs.BTreeSet.{contains}
 use Rattle.std.proofs.lemmas.Bool.Decides.{Decides-eqb}
 use Rattle.std.proofs.lemmas.List.Elements.{Contains-push_cases}
 use Rattle.pi_engine_code.specs.declared.fact_keys.FactKeys.{FactKeys}
-use Rattle.pi_engine_code.specs.declared.key.FactPlace.{FactPlace}
 use Rattle.pi_engine_code.specs.Order.{key, key_order}
-use Rattle.pi_engine_code.specs.Keys.{Has, items_of, places_in, AddsKey}
+use Rattle.pi_engine_code.specs.Keys.{items_of, places_in}
 use Rattle.pi_engine_code.specs.declared.code.HeadTest.{HeadTest}
 use Rattle.pi_engine_code.specs.declared.code.Rule.{Rule}
 use Rattle.pi_engine_code.specs.declared.code.Predicate.{Predicate}

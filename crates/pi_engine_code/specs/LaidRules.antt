@@ -6,7 +6,6 @@ use Rattle.pi_constraints.specs.Store.{StoreView}
 use Rattle.pi_core.specs.GoalTree.{GoalTree, truth, nodes}
 use Rattle.pi_core.specs.CoreTree.{ClauseTree, PredTree, pred_tree, leaves_others}
 use Rattle.pi_core.specs.declared.core_program.CorePred.{CorePred}
-use Rattle.pi_engine_code.specs.declared.code.Step.{Step}
 use Rattle.pi_engine_code.specs.declared.code.HeadTest.{HeadTest}
 use Rattle.pi_engine_code.specs.declared.code.Rule.{Rule}
 use Rattle.pi_engine_code.specs.declared.code.Predicate.{Predicate}

@@ -1,13 +1,11 @@
 -- A call, where the store has more terms, in the state that it had.
-use Rattle.std.proofs.Common.{◌≡◌, ℕ, zero, suc, ◌+◌, ◌≤◌, Bool, true, List, ◌∷◌, Option, Some, length, take, refl, sym, ◌∙◌, ap, subst, arith}
-use Rattle.std.specs.Prelude.{slice_get}
+use Rattle.std.proofs.Common.{◌≡◌, ℕ, zero, suc, ◌+◌, ◌≤◌, Bool, true, List, ◌∷◌, Some, length, take, refl, sym, ◌∙◌, ap, subst, arith}
 use Rattle.pi_constraints.specs.State.{State, IsState}
 use Rattle.pi_constraints.specs.Store.{StoreView, Keeps, Stays, Extend}
 use Rattle.pi_core.specs.CoreTree.{ClauseTree}
-use Rattle.pi_engine_arenas.specs.Arenas.{entry_at}
 use Rattle.pi_engine_arenas.specs.declared.arenas.Entry.{Entry}
 use Rattle.pi_meaning.specs.Machine.Configuration.{Frame, Called, Entry as EntryData}
-use Rattle.pi_engine_stands.specs.Stands.{World, tables_in, steps_of, entries_of, now_here, back_here, agrees_from, CallStands, EntryIs, StackIs, entry_above}
+use Rattle.pi_engine_stands.specs.Stands.{World, tables_in, steps_of, entries_of, now_here, back_here, CallStands, entry_above}
 use Rattle.pi_engine_stands.specs.Tries.{OwnEntry, HasEntry, no_entry, own_entry, CallIs}
 use Rattle.pi_engine_stands.proofs.HereLemmas.{Moves, goes_on-moves}
 use Rattle.pi_engine_stands.proofs.ProgramStands.{code-keeps}

@@ -3,14 +3,10 @@ use Rattle.std.proofs.Common.{◌≡◌, ℕ, suc, ◌+◌, List, [], ◌∷◌,
 use Rattle.std.proofs.lemmas.List.{length-append}
 use Rattle.pi_terms.specs.Tree.{Tree}
 use Rattle.pi_constraints.specs.State.{State}
-use Rattle.pi_constraints.specs.Store.{StoreView}
-use Rattle.pi_engine_arenas.specs.declared.arenas.Back.{Back}
 use Rattle.pi_engine_arenas.specs.declared.arenas.Kind.{Kind}
-use Rattle.pi_engine_arenas.specs.declared.run.Now.{Now}
-use Rattle.pi_engine_arenas.specs.Arenas.{ArenasView, entry_at, ReturnsToNewest}
-use Rattle.pi_meaning.specs.Machine.Configuration.{Entry as EntryData, Config}
+use Rattle.pi_meaning.specs.Machine.Configuration.{Entry as EntryData}
 use Rattle.pi_engine_stands.specs.Here.{Here}
-use Rattle.pi_engine_stands.specs.Stands.{Loaded, World, entries_of, back_here, KindIs, rules_kind, facts_kind, branches_kind, once_kind, not_kind, if_kind, guard_kind, apply_kind, collect_kind, count_kind, catch_kind, exit_kind, StackIs, no_entries, entry_above, StackStands, Stands}
+use Rattle.pi_engine_stands.specs.Stands.{Loaded, World, entries_of, back_here, KindIs, rules_kind, facts_kind, branches_kind, once_kind, not_kind, if_kind, guard_kind, apply_kind, collect_kind, count_kind, catch_kind, exit_kind, StackIs, no_entries, entry_above}
 use Rattle.pi_engine_stands.specs.ComesBack.{IsMadeIn, KeepsOneMark, EntriesKeepOneMark, ReturnsToTheMaking}
 use Rattle.pi_engine_stands.proofs.StandsLemmas.{moved, stack-length}
 use Rattle.pi_engine_stands.proofs.BackStand.{CameBack, came-back, back-kind}

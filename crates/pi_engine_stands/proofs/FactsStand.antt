@@ -1,39 +1,33 @@
 -- The facts of a call, tried from one on.
-use Rattle.std.proofs.Common.{◌≡◌, ℕ, zero, suc, ◌+◌, ◌-◌, ◌≤◌, ◌<◌, Bool, true, false, List, [], ◌∷◌, Option, Some, None, length, take, drop, map, refl, sym, ◌∙◌, ap, subst, arith}
+use Rattle.std.proofs.Common.{◌≡◌, ℕ, zero, ◌+◌, ◌-◌, ◌≤◌, Bool, true, false, List, [], ◌∷◌, Option, Some, None, length, drop, refl, sym, ◌∙◌, ap, subst, arith}
 use Rattle.std.specs.Prelude.{slice_get, cond, is_some, if◌then◌else◌}
-use Rattle.std.specs.List.{list_any}
-use Rattle.std.proofs.lemmas.List.{length-drop, take_all, drop-drop}
-use Rattle.pi_terms.specs.Tree.{Tree, Trees, comp}
-use Rattle.pi_constraints.specs.State.{State, IsState, bindings}
-use Rattle.pi_constraints.specs.Store.{StoreView, IsTerm, Keeps, Stays}
+use Rattle.std.proofs.lemmas.List.{take_all, drop-drop}
+use Rattle.pi_terms.specs.Tree.{Trees}
+use Rattle.pi_constraints.specs.State.{State, IsState}
+use Rattle.pi_constraints.specs.Store.{StoreView, Keeps, Stays}
 use Rattle.pi_core.specs.GoalTree.{no_goals}
-use Rattle.pi_core.specs.CoreTree.{ClauseTree, PredTree, clause_tree, pred_tree}
-use Rattle.pi_core.specs.declared.core_program.CorePred.{CorePred}
+use Rattle.pi_core.specs.CoreTree.{ClauseTree, PredTree}
 use Rattle.pi_unify.specs.Answers.{Answers}
-use Rattle.pi_meaning.specs.CoreMeaning.Facts.{fits_modes}
-use Rattle.pi_syntax.specs.declared.program.Mode.{Mode}
 use Rattle.pi_engine_arenas.specs.declared.arenas.Kind.{Kind}
-use Rattle.pi_engine_arenas.specs.declared.arenas.Entry.{Entry}
 use Rattle.pi_engine_arenas.specs.declared.frames.Point.{Point}
 use Rattle.pi_engine_arenas.specs.declared.run.Now.{Now}
-use Rattle.pi_engine_arenas.specs.Arenas.{ArenasView, entry_at, newest, slots_kept_by, DropsNewest, between}
-use Rattle.pi_engine_code.specs.Code.{preds_of}
+use Rattle.pi_engine_arenas.specs.Arenas.{ArenasView, DropsNewest, between}
 use Rattle.pi_engine_code.specs.declared.code.Predicate.{Predicate}
 use Rattle.pi_meaning.specs.Machine.Configuration.{Frame, Called, Config, config, going, failed, choice, facts_left, Back, Entry as EntryData}
-use Rattle.pi_meaning.specs.Machine.Step.{with_fact, from_unifying, later_facts, fact_tried, try_facts, try_rules, try_clauses, back_to}
+use Rattle.pi_meaning.specs.Machine.Step.{with_fact, from_unifying, later_facts, fact_tried, try_facts, back_to}
 use Rattle.pi_meaning.specs.Machine.Shape.{open_level}
 use Rattle.pi_engine_facts.specs.Trying.{IsFirst, IsNext, numbered}
-use Rattle.pi_engine_stands.specs.Here.{Block, Here, Holds, AreHere, none_here, AreHeld, GoesOn}
-use Rattle.pi_engine_stands.specs.Stands.{World, tables_in, steps_of, entries_of, now_here, Agrees, CallStands, KindIs, facts_kind, StackIs, StackStands, GoingIs, NowIs, going_now, failing_now, Stands}
+use Rattle.pi_engine_stands.specs.Here.{Block, Here, none_here, AreHeld}
+use Rattle.pi_engine_stands.specs.Stands.{World, tables_in, steps_of, now_here, CallStands, facts_kind, StackIs, StackStands, GoingIs, going_now, Stands}
 use Rattle.pi_engine_stands.specs.Evaluates.{Writes}
-use Rattle.pi_engine_stands.specs.Tries.{RulesLeft, CallGoes, CallIs, HasArguments, LeavesLater, KeepsCall, TriesFacts, TriesClauses}
+use Rattle.pi_engine_stands.specs.Tries.{CallIs, LeavesLater}
 use Rattle.pi_engine_stands.proofs.HereLemmas.{Moves, goes_on-moves}
 use Rattle.pi_engine_stands.proofs.ProgramStands.{code-keeps}
 use Rattle.pi_engine_stands.proofs.StandsLemmas.{moved, stack-length, open_level-within}
 use Rattle.pi_engine_stands.proofs.CallsStand.{Passes, keeps-terms, ends-pass, moves-pass, agrees-pass}
 use Rattle.pi_engine_stands.proofs.CallEntries.{Drops}
 use Rattle.pi_engine_stands.proofs.CallKept.{Makes, call-kept}
-use Rattle.pi_engine_stands.proofs.RulesTaken.{StackAfter, stack-kept, call-next, entry-gone, entry-none}
+use Rattle.pi_engine_stands.proofs.RulesTaken.{StackAfter, stack-kept, entry-gone, entry-none}
 use Rattle.pi_engine_stands.proofs.CallsTried.{call-ended}
 use Rattle.pi_engine_stands.proofs.CallsStay.{call-stays}
 use Rattle.pi_engine_stands.proofs.EqualStands.{writes-kept, stack-moved, going-moved}

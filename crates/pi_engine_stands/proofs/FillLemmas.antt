@@ -9,7 +9,7 @@ use Rattle.pi_engine_code.specs.declared.code.Part.{Part}
 use Rattle.pi_engine_code.specs.Code.{Tables}
 use Rattle.pi_engine_arenas.specs.Arenas.{ArenasView, between}
 use Rattle.pi_engine_stands.specs.Here.{Block, Holds, IsReadablePart}
-use Rattle.pi_engine_stands.specs.Evaluates.{Writes, Filling, filled_one, filled_by, parts_between, AreReadableParts, WritesFilling}
+use Rattle.pi_engine_stands.specs.Evaluates.{Filling, filled_one, filled_by, parts_between, AreReadableParts, WritesFilling}
 use Rattle.pi_terms.proofs.ListLemmas.{take-take, none-past}
 use Rattle.pi_engine_stands.proofs.PartsStand.{part-between, filled-last}
 use Rattle.pi_engine_stands.proofs.SlotsStand.{writes-none, writes-then}

@@ -4,22 +4,20 @@ use Rattle.pi_terms.specs.Tree.{Tree, cells, most_cells}
 use Rattle.pi_terms.specs.Places.{Places}
 use Rattle.pi_constraints.specs.State.{bindings}
 use Rattle.pi_constraints.specs.Value.{value}
-use Rattle.pi_constraints.specs.Store.{StoreView}
 use Rattle.pi_core.specs.GoalTree.{no_goals}
 use Rattle.pi_constraints.specs.Evaluation.{Evaluated}
 use Rattle.pi_meaning.specs.Shared.View.{View}
-use Rattle.pi_core.specs.CoreTree.{PredTree}
 use Rattle.pi_meaning.specs.CoreMeaning.Run.{Solution}
 use Rattle.pi_core.specs.declared.core_program.NameSlot.{NameSlot}
 use Rattle.pi_core.specs.declared.answer.NamedTerm.{NamedTerm}
 use Rattle.pi_core.specs.declared.answer.Answer.{Answer}
 use Rattle.pi_engine_arenas.specs.declared.frames.Point.{Point}
 use Rattle.pi_engine_arenas.specs.declared.run.Now.{Now}
-use Rattle.pi_engine_arenas.specs.Arenas.{ArenasView, Between}
+use Rattle.pi_engine_arenas.specs.Arenas.{Between}
 use Rattle.pi_meaning.specs.Machine.Configuration.{Frame, Entry, config, going, failed, raising}
 use Rattle.pi_meaning.specs.Machine.Step.{silently, answering, step}
 use Rattle.pi_engine_stands.specs.Here.{Block}
-use Rattle.pi_engine_stands.specs.Stands.{World, Stands, StandsGoing}
+use Rattle.pi_engine_stands.specs.Stands.{Stands, StandsGoing}
 use Rattle.pi_engine_stands.specs.Evaluates.{Writes}
 use Rattle.pi_engine_stands.specs.Makes.{SilentlyTo}
 use Rattle.pi_meaning.specs.Machine.Next.{Tells}

@@ -4,7 +4,7 @@ use Rattle.pi_terms.specs.Tree.{Tree, Trees, tree, comp, drop_trees}
 use Rattle.pi_terms.specs.TermCells.{take_trees}
 use Rattle.pi_terms.specs.Places.{Places, held}
 use Rattle.pi_constraints.specs.State.{State}
-use Rattle.pi_constraints.specs.Store.{StoreView, IsTerm, AreTerms, Keeps}
+use Rattle.pi_constraints.specs.Store.{IsTerm, AreTerms, Keeps}
 use Rattle.pi_constraints.specs.Evaluation.{Evaluated, EvaluatedAll, slot_term}
 use Rattle.pi_constraints.specs.declared.store.Ref.{Ref}
 use Rattle.pi_engine_code.specs.declared.code.Part.{Part}

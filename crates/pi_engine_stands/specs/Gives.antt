@@ -5,11 +5,10 @@ use Rattle.pi_core.specs.declared.core_program.NameSlot.{NameSlot}
 use Rattle.pi_engine_arenas.specs.declared.arenas.Back.{Back}
 use Rattle.pi_engine_code.specs.declared.code.Step.{Step}
 use Rattle.pi_engine_arenas.specs.declared.frames.Point.{Point}
-use Rattle.pi_engine_arenas.specs.declared.run.Now.{Now}
 use Rattle.pi_meaning.specs.Machine.Configuration.{Config}
 use Rattle.pi_engine_stands.specs.Goes.{AtGoal}
 use Rattle.pi_engine_stands.specs.Makes.{SilentlyTo}
-use Rattle.pi_engine_stands.specs.Stands.{World, Stands}
+use Rattle.pi_engine_stands.specs.Stands.{Stands}
 use Rattle.pi_engine_stands.specs.Changes.{Change}
 
 -- what an entry comes back to, in the caller's block and without the slots of the call

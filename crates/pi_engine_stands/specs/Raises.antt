@@ -18,7 +18,7 @@ use Rattle.pi_engine_arenas.specs.declared.arenas.Entry.{Entry}
 use Rattle.pi_meaning.specs.Machine.Configuration.{Frame, Entry as EntryData}
 use Rattle.pi_meaning.specs.Machine.Step.{raise_step}
 use Rattle.pi_meaning.specs.Machine.Shape.{IsBalanced}
-use Rattle.pi_engine_stands.specs.Stands.{World, steps_of, entries_of, now_here, block_at, GoalStands, StackStands}
+use Rattle.pi_engine_stands.specs.Stands.{steps_of, entries_of, now_here, block_at, GoalStands, StackStands}
 use Rattle.pi_constraints.specs.Store.{Extend}
 use Rattle.pi_engine_stands.specs.Evaluates.{Writes}
 use Rattle.pi_engine_stands.specs.Fails.{ComesTo}

@@ -15,7 +15,6 @@ use Rattle.pi_engine_arenas.specs.declared.blocks.BlocksMark.{BlocksMark}
 use Rattle.pi_engine_arenas.specs.Blocks.{BlocksView, IsKept, KeepsBlocks, brought_back}
 use Rattle.pi_engine_code.specs.declared.code.Predicate.{Predicate}
 use Rattle.pi_engine_code.specs.declared.code.Rule.{Rule}
-use Rattle.pi_engine_arenas.specs.declared.run.Now.{Now}
 use Rattle.pi_engine_arenas.specs.Arenas.{ArenasView, entry_at, newest, slots_kept_by, noted_by, with_kind, PushesEntry, DropsNewest, Between, keeping, Keeping}
 use Rattle.pi_engine_arenas.specs.declared.arenas.Entry.{Entry}
 use Rattle.pi_meaning.specs.Machine.Configuration.{Frame, Called, strict, guard_level, Entry as EntryData}

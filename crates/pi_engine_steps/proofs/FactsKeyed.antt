@@ -1,8 +1,8 @@
 -- The facts of a call's predicate have the keys by which they are found, from what the tables have.
-use Rattle.std.proofs.Common.{◌≡◌, ℕ, zero, suc, ◌+◌, ◌≤◌, ◌<◌, Bool, List, [], ◌∷◌, Some, length, drop, map, refl, sym, ◌∙◌, ap, subst, arith}
-use Rattle.std.specs.Prelude.{slice_get, option_map, Contains}
+use Rattle.std.proofs.Common.{◌≡◌, ℕ, zero, suc, ◌+◌, ◌≤◌, ◌<◌, Bool, List, [], ◌∷◌, Some, length, drop, map, refl, sym, ◌∙◌, ap, arith}
+use Rattle.std.specs.Prelude.{slice_get, option_map}
 use Rattle.std.proofs.lemmas.Option.{slice_get_within, slice_get-map}
-use Rattle.pi_terms.specs.PatternTree.{PatternTree, PatternTrees, no_patterns, pattern}
+use Rattle.pi_terms.specs.PatternTree.{PatternTree}
 use Rattle.pi_constraints.specs.State.{State}
 use Rattle.pi_core.specs.CoreTree.{ClauseTree, PredTree, clause_tree, pattern_tree, pattern_trees}
 use Rattle.pi_core.specs.declared.core_program.CoreClause.{CoreClause}
@@ -14,7 +14,7 @@ use Rattle.pi_engine_code.specs.declared.code.HeadTest.{HeadTest}
 use Rattle.pi_engine_code.specs.declared.code.Predicate.{Predicate}
 use Rattle.pi_engine_code.specs.declared.code.Rule.{Rule}
 use Rattle.pi_meaning.specs.Machine.Configuration.{Frame, Called, Entry as EntryData}
-use Rattle.pi_engine_facts.specs.Keyed.{IsShown, HasKey, HaveKeys}
+use Rattle.pi_engine_facts.specs.Keyed.{IsShown, HaveKeys}
 use Rattle.pi_engine_stands.specs.Stands.{World, tables_in, AreTestsOf, IsRuleOf, IsPredicateOf}
 use Rattle.pi_engine_stands.specs.Tries.{CallIs}
 use Rattle.pi_engine_stands.proofs.ArgumentsStand.{behind-first}

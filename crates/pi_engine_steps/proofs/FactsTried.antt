@@ -1,17 +1,16 @@
 -- The facts of a call that are tried, from what the calls of the code say.
 use Rattle.std.proofs.Common.{◌≡◌, ℕ, zero, suc, ◌+◌, ◌-◌, ◌≤◌, ◌<◌, Bool, true, false, List, [], ◌∷◌, Option, Some, None, length, drop, take, map, refl, sym, ◌∙◌, ap, subst, arith}
-use Rattle.std.specs.Prelude.{slice_get, is_some, cond, if◌then◌else◌}
+use Rattle.std.specs.Prelude.{slice_get, is_some, cond}
 use Rattle.std.specs.List.{list_any}
 use Rattle.std.proofs.lemmas.List.{length-map, length-drop}
-use Rattle.pi_terms.specs.Tree.{Tree, Trees, no_trees, tree, comp}
+use Rattle.pi_terms.specs.Tree.{Tree, Trees, comp}
 use Rattle.pi_constraints.specs.State.{State, IsState, bindings}
-use Rattle.pi_constraints.specs.Store.{StoreView, IsTerm, AreTerms, Keeps, Stays, Terms}
+use Rattle.pi_constraints.specs.Store.{StoreView, IsTerm, AreTerms, Stays}
 use Rattle.pi_constraints.specs.declared.store.Ref.{Ref}
 use Rattle.pi_core.specs.CoreTree.{ClauseTree, PredTree, clause_tree, pred_tree}
 use Rattle.pi_core.specs.declared.core_program.CoreClause.{CoreClause}
 use Rattle.pi_core.specs.declared.core_program.CorePred.{CorePred}
 use Rattle.pi_unify.specs.Answers.{Answers}
-use Rattle.pi_unify.proofs.KeepsLemmas.{stays_then}
 use Rattle.pi_meaning.specs.CoreMeaning.Facts.{fits_modes}
 use Rattle.pi_syntax.specs.declared.program.Mode.{Mode}
 use Rattle.pi_engine_code.specs.Code.{preds_of}
@@ -28,8 +27,8 @@ use Rattle.pi_meaning.specs.Machine.Step.{with_fact, from_unifying, silently, fa
 use Rattle.pi_engine_facts.specs.Trying.{IsFirst, IsNext, numbered}
 use Rattle.pi_engine_facts.proofs.TryingLemmas.{next-there}
 use Rattle.pi_engine_stands.specs.Here.{Here, AreHeld, HoldsArguments}
-use Rattle.pi_engine_stands.specs.Stands.{World, Loaded, tables_in, now_here, back_here, IsPredicateOf, CallStands, KindIs, rules_kind, facts_kind, branches_kind, once_kind, not_kind, if_kind, guard_kind, apply_kind, collect_kind, count_kind, catch_kind, exit_kind, Stands}
-use Rattle.pi_engine_stands.specs.Tries.{CallIs, HasArguments, KeepsCall, keeps_new, keeps_own, LeavesLater, TriesFacts, TriesClauses}
+use Rattle.pi_engine_stands.specs.Stands.{World, Loaded, tables_in, back_here, IsPredicateOf, CallStands, KindIs, rules_kind, facts_kind, branches_kind, once_kind, not_kind, if_kind, guard_kind, apply_kind, collect_kind, count_kind, catch_kind, exit_kind, Stands}
+use Rattle.pi_engine_stands.specs.Tries.{CallIs, HasArguments, KeepsCall, keeps_new, keeps_own, LeavesLater, TriesFacts}
 use Rattle.pi_engine_stands.specs.Fails.{ComesTo, IsBack}
 use Rattle.pi_engine_stands.proofs.StandsLemmas.{moved}
 use Rattle.pi_engine_stands.proofs.RulesTaken.{predicate-of, entry-none}
@@ -38,7 +37,7 @@ use Rattle.pi_engine_stands.proofs.MissingStand.{terms-of-held}
 use Rattle.pi_engine_stands.proofs.CallEntries.{same-stays}
 use Rattle.pi_engine_stands.proofs.FactsStand.{facts-left, facts-end, fact-taken}
 use Rattle.pi_engine_arenas.specs.declared.frames.Call.{Call}
-use Rattle.pi_engine_steps.specs.Facts.{TakesFact, TriesSome}
+use Rattle.pi_engine_steps.specs.Facts.{TakesFact}
 use Rattle.pi_engine_steps.proofs.RetriesStand.{again}
 use Rattle.pi_engine_stands.specs.Changes.{change}
 use Rattle.pi_engine_arenas.specs.Frames.{call_at}

@@ -8,11 +8,10 @@ use Rattle.pi_core.specs.CoreTree.{ClauseTree, PredTree, clause_tree}
 use Rattle.pi_core.specs.declared.core_program.CoreClause.{CoreClause}
 use Rattle.pi_unify.specs.Answers.{Answers}
 use Rattle.pi_engine_code.specs.declared.code.Predicate.{Predicate}
-use Rattle.pi_engine_arenas.specs.declared.frames.Point.{Point}
 use Rattle.pi_engine_arenas.specs.declared.run.Now.{Now}
 use Rattle.pi_meaning.specs.Machine.Configuration.{Frame, Entry as EntryData}
 use Rattle.pi_meaning.specs.Machine.Step.{with_fact, try_facts, back_to}
-use Rattle.pi_engine_stands.specs.Stands.{World, Stands}
+use Rattle.pi_engine_stands.specs.Stands.{Stands}
 use Rattle.pi_engine_stands.specs.Tries.{CallIs}
 use Rattle.pi_engine_stands.specs.Changes.{Change}
 use Rattle.pi_engine_arenas.specs.declared.frames.Call.{Call}

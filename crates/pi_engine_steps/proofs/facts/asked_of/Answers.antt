@@ -1,4 +1,4 @@
-use Rattle.std.proofs.Common.{◌≡◌, rules}
+use Rattle.std.proofs.Common.{rules}
 use Rattle.std.proofs.lemmas.Result.{IfOk-weaker}
 use Rattle.pi_engine_facts.proofs.HeadLemmas.{comp-same}
 use Rattle.pi_engine_steps.proofs.FactsTried.{terms-held}

@@ -1,16 +1,12 @@
-use Rattle.std.proofs.Common.{◌≡◌, ◌∙◌, sym, ap, subst, [], true, false, Some, List}
-use Rattle.std.specs.Prelude.{slice_get, is_some}
-use Rattle.std.specs.List.{list_any}
+use Rattle.std.proofs.Common.{◌≡◌, ◌∙◌, sym, ap, subst, [], false, Some}
+use Rattle.std.specs.Prelude.{slice_get}
 use Rattle.std.proofs.lemmas.Result.{IfOk-weaker}
-use Rattle.pi_constraints.specs.State.{bindings}
-use Rattle.pi_meaning.specs.CoreMeaning.Facts.{fits_modes}
 use Rattle.pi_engine_arenas.specs.Arenas.{view_of}
 use Rattle.pi_meaning.specs.Machine.Step.{back_to, try_clauses}
-use Rattle.pi_engine_stands.specs.Here.{HoldsArguments}
 use Rattle.pi_engine_stands.specs.Stands.{World, world, Stands}
 use Rattle.pi_engine_stands.specs.Tries.{TriesFacts}
 use Rattle.pi_engine_arenas.specs.declared.run.Now.{Now}
-use Rattle.pi_engine_steps.proofs.FactsTried.{there-of, by-facts, fits-so, fits-not, call-fails, pred-at, fits-there}
+use Rattle.pi_engine_steps.proofs.FactsTried.{there-of, by-facts, fits-so, fits-not, call-fails, fits-there}
 use Rattle.pi_engine_steps.proofs.facts.call_facts.Goals as goal
 use Rattle.pi_engine_stands.specs.Changes.{change}
 

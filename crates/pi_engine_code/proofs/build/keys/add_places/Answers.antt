@@ -1,5 +1,5 @@
-use Rattle.std.proofs.Common.{◌≡◌, ◌∙◌, sym, ap, Some}
-use Rattle.std.specs.Prelude.{slice_get, option_copied}
+use Rattle.std.proofs.Common.{◌∙◌, sym, ap}
+use Rattle.std.specs.Prelude.{option_copied}
 use Rattle.pi_engine_code.proofs.KeyedLemmas.{no-places-yet, places-more, keyed-more}
 use Rattle.pi_engine_code.proofs.build.keys.add_places.Goals as goal
 
