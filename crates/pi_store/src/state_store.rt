@@ -1,7 +1,7 @@
 //! The store over raw words as a store of states.
 ghost use Rattle.std.specs.Prelude.{IfOk, IsOk, OnErr};
 ghost use Rattle.pi_constraints.specs.Store.{Marks, Stays};
-ghost use Rattle.pi_store.specs.Holding.{view_of};
+ghost use Rattle.pi_store.specs.Holding.{order, view_of};
 
 use crate::mark::RawMark;
 use crate::store::RawStore;
@@ -135,8 +135,8 @@ impl StateStore for RawStore {
 
     /// Remembers what the store holds. It takes no memory, and so it is always Ok.
     fn mark(&mut self) -> Result<RawMark, AllocError>
-        ensures ok { IfOk result (Marks order (seen self.old) (seen self.new)) }
-        ensures err { OnErr result (Stays (seen self.old) (seen self.new)) }
+        ensures ok { IfOk result (Marks order (view_of self.old.names self.old.image) (view_of self.new.names self.new.image)) }
+        ensures err { OnErr result (Stays (view_of self.old.names self.old.image) (view_of self.new.names self.new.image)) }
         ensures always { IsOk result }
     {
         Ok(self.mark_now())
