@@ -9,6 +9,7 @@ pub mod PropagationLaws
 pub mod Options
 pub mod Asked
 pub mod Confined
+pub mod Calm
 pub mod Choices
 pub mod Label
 pub mod Reading
