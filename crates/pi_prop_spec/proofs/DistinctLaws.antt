@@ -39,7 +39,7 @@ within_value a b d x h t m =
     let high : int_le (greatest_of d) b ≡ true = p.1 in
     among_of a b x h (omega (arith, ints, m.0)) (omega (arith, ints, m.1))
 
-cond_no_more : (b c : Bool) (m n : ℕ) → (b ≡ true → c ≡ true) → m ≤ n → cond b (suc m) m ≤ cond c (suc n) n
+pub cond_no_more : (b c : Bool) (m n : ℕ) → (b ≡ true → c ≡ true) → m ≤ n → cond b (suc m) m ≤ cond c (suc n) n
 cond_no_more true true m n h l = omega arith
 cond_no_more true false m n h l = let e : false ≡ true = h refl in absurd (cc)
 cond_no_more false true m n h l = omega arith

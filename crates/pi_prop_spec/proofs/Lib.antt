@@ -1,6 +1,10 @@
 pub mod BooleanLemmas
 pub mod CoefficientLemmas
 pub mod CountLemmas
+pub mod DecidedEnds
+pub mod DecidedLemmas
+pub mod DecidedRules
+pub mod DecidedTests
 pub mod DifferentLaws
 pub mod DistinctLaws
 pub mod ElementLaws

@@ -1,3 +1,5 @@
+pub mod Decided
+pub mod DecidedLaws
 pub mod Ends
 pub mod Filter
 pub mod Laws

@@ -33,3 +33,5 @@ pub mod Load
 pub mod Settled
 pub mod Solves
 pub mod SettlingLaws
+pub mod Settle
+pub mod SettleLaws
