@@ -1,9 +1,9 @@
 -- The filter of a constraint as a test: it tells what the filter leaves.
-use Rattle.std.specs.Prelude.{◌≡◌, ◌≢◌, ◌⊎◌, ℕ, zero, suc, ◌==◌, ◌<◌, Bool, true, false, not, cond, ◌&&◌, ◌||◌, IsTrue, List, [], ◌∷◌, ◌++◌, length, drop, slice_get, Option, Some, None, Contains, ℤ, pos, ◌≤ℤ◌, refl}
+use Rattle.std.specs.Prelude.{◌≡◌, ◌≢◌, ◌⊎◌, ℕ, zero, suc, ◌==◌, ◌<◌, Bool, false, not, ◌&&◌, IsTrue, List, [], ◌∷◌, ◌++◌, length, slice_get, Option, Some, None, ℤ, pos, ◌≤ℤ◌, refl}
 use Rattle.std.specs.Bool.{Decides}
 use Rattle.std.specs.List.{list_any}
 use Rattle.std.specs.Ordering.{int_eq}
-use Rattle.std.proofs.Common.{arith, sym, ◌∙◌, ap, subst, inl, inr}
+use Rattle.std.proofs.Common.{arith, sym, ◌∙◌, ap, subst}
 use Rattle.std.proofs.lemmas.List.{length_push}
 use Rattle.std.proofs.lemmas.Bool.Decides.{Decides-eqb, Decides-int_eq, Decides-like, Decides-and, Decides-or}
 use Rattle.pi_constraints.specs.declared.constraint.Constraint.{Constraint}
@@ -16,9 +16,9 @@ use Rattle.pi_prop_spec.specs.Ends.{least_of, greatest_of, IsFixedTo}
 use Rattle.pi_prop_spec.specs.Places.{places_of, domain_at, HaveValues, HaveOneVariable}
 use Rattle.pi_prop_spec.specs.Sums.{SumKeeps, OppositeKeeps}
 use Rattle.pi_prop_spec.specs.Reified.{LeavesValues, of_terms, ReifiedKeeps}
-use Rattle.pi_prop_spec.specs.Filter.{RuleKeeps, PlaceKeeps, Leaves}
+use Rattle.pi_prop_spec.specs.Filter.{RuleKeeps, PlaceKeeps}
 use Rattle.pi_prop_spec.specs.Laws.{AreDomainsOf}
-use Rattle.pi_prop_spec.specs.Decided.{each_below, if_so, is_empty, is_fixed_to, sum_keeps, opposite_keeps, leaves_values, truth_keeps, reified_keeps, rule_keeps, have_values, place_keeps, same_variable, have_one_variable, leaves}
+use Rattle.pi_prop_spec.specs.Decided.{if_so, is_empty, is_fixed_to, sum_keeps, opposite_keeps, leaves_values, truth_keeps, reified_keeps, rule_keeps, have_values, place_keeps, same_variable, have_one_variable, leaves}
 use Rattle.pi_prop_spec.specs.DecidedLaws.{LeavesIsDecided}
 use Rattle.pi_prop_spec.proofs.EndLemmas.{least-below, greatest-has}
 use Rattle.pi_prop_spec.proofs.DecidedTests.{is-true, not_both, and_so-decides, if_so-decides, cond-decides, each_below-decides, list_any-decides}

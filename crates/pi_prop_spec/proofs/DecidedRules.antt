@@ -1,5 +1,5 @@
 -- The rules of filters as tests: they decide what they say.
-use Rattle.std.specs.Prelude.{◌≡◌, ◌≢◌, ℕ, zero, suc, ◌==◌, ◌<◌, ◌≤◌, nat_le, Bool, true, false, not, cond, ◌&&◌, ◌||◌, IsTrue, List, [], ◌∷◌, length, ℤ, pos, neg_ℤ, ◌-ℤ◌, ◌*ℤ◌, ◌≤ℤ◌, int_le, refl}
+use Rattle.std.specs.Prelude.{◌≡◌, ◌≢◌, ℕ, zero, suc, ◌==◌, ◌<◌, ◌≤◌, nat_le, Bool, true, not, cond, ◌&&◌, ◌||◌, IsTrue, List, [], ◌∷◌, length, ℤ, pos, neg_ℤ, ◌-ℤ◌, ◌*ℤ◌, ◌≤ℤ◌, int_le, refl}
 use Rattle.std.specs.Bool.{Decides}
 use Rattle.std.specs.Int.{int_max}
 use Rattle.std.specs.Ordering.{int_eq}
@@ -15,9 +15,9 @@ use Rattle.pi_prop_spec.specs.Ends.{least_of, greatest_of, IsBetween, IsFixed, I
 use Rattle.pi_prop_spec.specs.Places.{domain_at}
 use Rattle.pi_prop_spec.specs.Sums.{least_with, negated, AtMostKeeps, EqualKeeps, AreOthersFixed, UnequalKeeps, SumKeeps, OppositeKeeps}
 use Rattle.pi_prop_spec.specs.Rules.{DifferentKeeps, ShareAValue, ElementKeeps, least_corner, greatest_corner, FactorKeeps, ProductKeeps, magnitude, AbsoluteKeeps}
-use Rattle.pi_prop_spec.specs.Decided.{each_below, some_below, if_so, is_empty, is_fixed, is_fixed_to, is_between, at_most_keeps, equal_keeps, are_others_fixed, unequal_keeps, sum_keeps, opposite_keeps, different_keeps, is_inside, share_a_value, index_keeps, value_keeps, element_keeps, factor_keeps, product_keeps, least_magnitude, greatest_magnitude, absolute_keeps}
+use Rattle.pi_prop_spec.specs.Decided.{if_so, is_empty, is_fixed, is_fixed_to, is_between, at_most_keeps, equal_keeps, are_others_fixed, unequal_keeps, sum_keeps, opposite_keeps, different_keeps, is_inside, share_a_value, index_keeps, value_keeps, element_keeps, factor_keeps, product_keeps, least_magnitude, greatest_magnitude, absolute_keeps}
 use Rattle.pi_prop_spec.proofs.EndLemmas.{least-has, not_empty}
-use Rattle.pi_prop_spec.proofs.DecidedTests.{le-decides, nat_le-decides, and_so-decides, if_so-decides, unless-decides, cond-decides, each_below-decides, some_below-decides}
+use Rattle.pi_prop_spec.proofs.DecidedTests.{le-decides, nat_le-decides, if_so-decides, unless-decides, cond-decides, each_below-decides, some_below-decides}
 
 -- ---- domains
 
