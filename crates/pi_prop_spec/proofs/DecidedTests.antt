@@ -53,6 +53,16 @@ each_below-decides p P (suc n) each = Decides-like (p n && each_below n p)
     (λ h. (h n (omega arith), λ k l. h k (omega (arith, l))))
     (Decides-and (p n) (each_below n p) (each n (omega arith)) (each_below-decides p P n (λ k l. each k (omega (arith, l)))))
 
+-- where not each does, some number doesn't
+pub each_below-fails : (p : ℕ → Bool) (n : ℕ) → each_below n p ≡ false → (k : ℕ) × (k < n) × (p k ≡ false)
+unfolding each_below
+each_below-fails p zero e = absurd (not_both true refl e)
+each_below-fails p (suc n) e = by (p n) refl e (each_below-fails p n)
+  where
+    by : (a : Bool) → p n ≡ a → (a && each_below n p) ≡ false → (each_below n p ≡ false → (k : ℕ) × (k < n) × (p k ≡ false)) → (k : ℕ) × (k < suc n) × (p k ≡ false)
+    by true at f below = let w = below f in (w.0, omega (arith, w.1), w.2)
+    by false at f below = (n, omega arith, at)
+
 pub some_below-decides : (p : ℕ → Bool) (P : ℕ → Type 0) (n : ℕ) → ((k : ℕ) → k < n → Decides (p k) (P k)) → Decides (some_below n p) ((k : ℕ) × (k < n) × P k)
 unfolding some_below
 some_below-decides p P zero each = (λ e. absurd (not_both false e refl), λ h. absurd (omega (arith, h.1)))

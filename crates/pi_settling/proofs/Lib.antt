@@ -22,6 +22,7 @@ pub mod WithinExamples
 pub mod PostedExamples
 pub mod PlaceLemmas
 pub mod RootLemmas
+pub mod SettleVariables
 pub mod StableLemmas
 pub mod UniqueLemmas
 pub mod EventLemmas

@@ -209,7 +209,7 @@ runs-between s due k r now is may (one_more j p q i rest fresh c before at run m
 
 -- ---- a run that fails
 
-lost-empties : (s r : State) (c : Constraint) (x : Item) → IsState s → MaySettle s → IsBetween s r → Contains s.constraints c → IsLost r c x → IsEmptied s
+pub lost-empties : (s r : State) (c : Constraint) (x : Item) → IsState s → MaySettle s → IsBetween s r → Contains s.constraints c → IsLost r c x → IsEmptied s
 lost-empties s r c x is may b posted (integer_lost k i (y, at, e) none) =
     let place = place-is c k y at in
     let z : Item = root_item s (place_at c k) in

@@ -102,7 +102,7 @@ none-in : 2 ≤ size_of [] → ⊥
 unfolding values_of
 none-in l = omega arith
 
-some-in : (d : List Span) → IsDomain d → 2 ≤ size_of d → (i : ℤ) × IsTrue (has_value d i)
+pub some-in : (d : List Span) → IsDomain d → 2 ≤ size_of d → (i : ℤ) × IsTrue (has_value d i)
 some-in [] up l = absurd (none-in l)
 some-in (s ∷ ss) up l = (s.lo, (IsLeastValue-first s ss up).is_value)
 

@@ -3,4 +3,5 @@ pub mod agents;
 pub mod domains;
 pub mod labelling;
 pub mod runs;
+pub mod settle;
 pub mod settling;
