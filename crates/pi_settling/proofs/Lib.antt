@@ -23,6 +23,9 @@ pub mod PostedExamples
 pub mod PlaceLemmas
 pub mod RootLemmas
 pub mod SettleVariables
+pub mod SettleRuns
+pub mod SettleLemmas
+pub mod SettleKeeps
 pub mod StableLemmas
 pub mod UniqueLemmas
 pub mod EventLemmas

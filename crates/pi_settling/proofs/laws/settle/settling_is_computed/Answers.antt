@@ -1,14 +1,14 @@
-use Rattle.pi_settling.proofs.SettleVariables.{variables-left}
+use Rattle.pi_settling.proofs.SettleLemmas.{gives_the_stable_state, finds_what_is_emptied, settled_settles, calm_is_settled}
 use Rattle.pi_settling.proofs.laws.settle.settling_is_computed.Goals as goal
 
 pub returns-clause-stable : goal.returns-clause-stable
-returns-clause-stable c = ?
+returns-clause-stable c = gives_the_stable_state
 
 pub returns-clause-emptied : goal.returns-clause-emptied
-returns-clause-emptied c = ?
+returns-clause-emptied c = finds_what_is_emptied
 
 pub returns-clause-settles : goal.returns-clause-settles
-returns-clause-settles c = ?
+returns-clause-settles c = settled_settles
 
 pub returns-clause-calm : goal.returns-clause-calm
-returns-clause-calm c = ?
+returns-clause-calm c = calm_is_settled

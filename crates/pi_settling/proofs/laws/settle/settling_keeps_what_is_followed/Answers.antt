@@ -1,7 +1,8 @@
+use Rattle.pi_settling.proofs.SettleKeeps.{settling_makes_no_variable, followed_stay}
 use Rattle.pi_settling.proofs.laws.settle.settling_keeps_what_is_followed.Goals as goal
 
 pub returns-clause-count : goal.returns-clause-count
-returns-clause-count c = ?
+returns-clause-count c = settling_makes_no_variable
 
 pub returns-clause-followed : goal.returns-clause-followed
-returns-clause-followed c = ?
+returns-clause-followed c = followed_stay

@@ -1,0 +1,106 @@
+-- What settling as a function keeps of every state: how many variables there are, and what they are bound to.
+use Rattle.std.specs.Prelude.{◌≡◌, ◌⊎◌, ℕ, zero, suc, ◌==◌, ◌<◌, ◌≤◌, ℤ, Bool, true, false, cond, List, [], ◌∷◌, length, filter, get_or, Option, Some, None, option_map, option_and_then, refl}
+use Rattle.std.proofs.Common.{arith, sym, ◌∙◌, ap, subst, inl, inr}
+use Rattle.pi_terms.specs.Tree.{Tree, Trees, var, int, atom, comp}
+use Rattle.pi_terms.specs.Places.{held}
+use Rattle.pi_constraints.specs.declared.constraint.Constraint.{Constraint}
+use Rattle.pi_constraints.specs.Domain.{values_of}
+use Rattle.pi_constraints.specs.State.{State, Variable, free, within, bound, binding, bindings, next, followed}
+use Rattle.pi_constraints.proofs.StateLemmas.{variable, held_is, as_many}
+use Rattle.pi_constraints.proofs.FollowLemmas.{followed_later}
+use Rattle.pi_settling.specs.Settle.{is_kept, integers_left, variable_with, variable_left, variables_left, with_variables, run_of, runs_of, count_all, passes, stable_state}
+use Rattle.pi_settling.specs.SettleLaws.{SettlingMakesNoVariable, FollowedStay}
+use Rattle.pi_settling.proofs.RootLemmas.{Kept}
+use Rattle.pi_settling.proofs.SettleVariables.{parts-of}
+use Rattle.pi_settling.proofs.SettleRuns.{run-parts}
+use Rattle.pi_settling.proofs.SettleLemmas.{and-then}
+
+-- ---- variables
+
+bound-stays : (p : ℤ → Bool) (v w : Variable) (t : Tree) → variable_left p v ≡ Some w → binding v ≡ Some t → binding w ≡ Some t
+bound-stays p free w t e is = absurd (cc)
+bound-stays p (within d) w t e is = absurd (cc)
+bound-stays p (bound u) w t e is = let same : bound u ≡ w = cc in ap binding (sym same) ∙ is
+
+record StayBound (vs ws : List Variable) : Type 0 where
+  count : length ws ≡ length vs
+  each : (k : ℕ) (t : Tree) → binding (get_or vs k free) ≡ Some t → binding (get_or ws k free) ≡ Some t
+
+one-more : (p : ℤ → Bool) (v w : Variable) (vs us : List Variable) → variable_left p v ≡ Some w → StayBound vs us → StayBound (v ∷ vs) (w ∷ us)
+one-more p v w vs us e rest = record { count = ap suc rest.count; each = by }
+  where
+    by : (k : ℕ) (t : Tree) → binding (get_or (v ∷ vs) k free) ≡ Some t → binding (get_or (w ∷ us) k free) ≡ Some t
+    by zero t is = bound-stays p v w t e is
+    by (suc k) t is = rest.each k t is
+
+variables-stay : (kept : ℕ → ℤ → Bool) (n : ℕ) (vs ws : List Variable) → variables_left kept n vs ≡ Some ws → StayBound vs ws
+unfolding variables_left
+variables-stay kept n [] ws e = let same : [] ≡ ws = cc in subst (StayBound []) same (record { count = refl; each = λ k t is. is })
+variables-stay kept n (v ∷ vs) ws e =
+    let p = parts-of (variable_left (kept n) v) (variables_left kept (suc n) vs) ws e in
+    subst (StayBound (v ∷ vs)) p.4 (one-more (kept n) v p.0 vs p.1 p.2 (variables-stay kept (suc n) vs p.1 p.3))
+
+-- ---- states
+
+-- as many variables, and what is bound stays so
+record StaysBound (s r : State) : Type 0 where
+  count : next r ≡ next s
+  kept : Kept (bindings s) (bindings r)
+
+itself : (s : State) → StaysBound s s
+itself s = record { count = refl; kept = λ n u is. is }
+
+compose : (s r q : State) → StaysBound s r → StaysBound r q → StaysBound s q
+compose s r q f g = record { count = g.count ∙ f.count; kept = λ n u is. g.kept n u (f.kept n u is) }
+
+run-stays : (s : State) (c : Constraint) (r : State) → run_of c s ≡ Some r → StaysBound s r
+unfolding run_of
+run-stays s c r e =
+    let p = run-parts (integers_left s c) (variables_left (is_kept s c) 0 s.variables) s r e in
+    let h : StayBound s.variables p.0 = variables-stay (is_kept s c) 0 s.variables p.0 p.2 in
+    subst (StaysBound s) p.3 (record {
+      count = h.count;
+      kept = λ n u is. held_is (with_variables s p.0) n ∙ h.each n u (sym (held_is s n) ∙ is);
+    })
+
+runs-stay : (cs : List Constraint) (s r : State) → runs_of cs s ≡ Some r → StaysBound s r
+unfolding runs_of
+runs-stay [] s r e = let same : s ≡ r = cc in subst (StaysBound s) same (itself s)
+runs-stay (c ∷ cs) s r e =
+    let w = and-then (runs_of cs) (run_of c s) r e in
+    compose s w.0 r (run-stays s c w.0 w.1) (runs-stay cs w.0 r w.2)
+
+one-of : (b : Bool) (q r : State) (o : Option State) → cond b (Some q) o ≡ Some r → (q ≡ r) ⊎ (o ≡ Some r)
+one-of true q r o e = let same : q ≡ r = cc in inl same
+one-of false q r o e = inr e
+
+passes-stay : (k : ℕ) (s r : State) → passes k s ≡ Some r → StaysBound s r
+unfolding passes
+passes-stay zero s r e = let same : s ≡ r = cc in subst (StaysBound s) same (itself s)
+passes-stay (suc k) s r e =
+    let w = and-then (λ q. cond (count_all q == count_all s) (Some q) (passes k q)) (runs_of s.constraints s) r e in
+    let here : StaysBound s w.0 = runs-stay s.constraints s w.0 w.1 in
+    elim (one-of (count_all w.0 == count_all s) w.0 r (passes k w.0) w.2) [
+      | inl same ↦ subst (StaysBound s) same here
+      | inr more ↦ compose s w.0 r here (passes-stay k w.0 r more)
+    ]
+
+settling-stays : (s r : State) → stable_state s ≡ Some r → StaysBound s r
+unfolding stable_state
+settling-stays s r e = passes-stay (suc (count_all s)) s r e
+
+-- ---- the laws
+
+pub settling_makes_no_variable : SettlingMakesNoVariable
+settling_makes_no_variable s r e = (settling-stays s r e).count
+
+end-stays : (s r : State) (t u : Tree) → StaysBound s r → ((n : ℕ) → u ≡ var n → ⊥) → followed (bindings s) t ≡ u → followed (bindings r) t ≡ u
+end-stays s r t u h none is = followed_later (bindings s) (bindings r) t u (as_many r ∙ (h.count ∙ sym (as_many s))) h.kept (λ n e. absurd (none n e)) is
+
+pub followed_stay : FollowedStay
+followed_stay s r t e =
+    let h : StaysBound s r = settling-stays s r e in (
+      λ i is. end-stays s r t (int i) h (λ n same. absurd (cc)) is,
+      λ name is. end-stays s r t (atom name) h (λ n same. absurd (cc)) is,
+      λ name ts is. end-stays s r t (comp name ts) h (λ n same. absurd (cc)) is,
+    )
