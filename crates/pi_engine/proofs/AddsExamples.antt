@@ -1,6 +1,6 @@
 -- Runs of propagators that a call may count, and some that it may not, by small budgets.
 use Rattle.std.proofs.Common.{◌≡◌, ◌≤◌, ◌+◌, ℕ, [], refl, arith}
-use Rattle.pi_meaning.specs.Traces.Trace.{count_ticks}
+use Rattle.pi_traces.specs.Trace.{count_ticks}
 use Rattle.pi_meaning.specs.declared.happening.Budget.{Budget}
 use Rattle.pi_meaning.specs.declared.happening.Happening.{Happening}
 use Rattle.std.specs.Prelude.{pos}

@@ -2,7 +2,7 @@
 use Rattle.std.proofs.Common.{Box, Global, ◌≡◌, ◌≢◌, ◌⊎◌, inl, inr, ℕ, List, [], ◌∷◌, ◌++◌, Some, refl, sym, ◌∙◌, ap, subst}
 use Rattle.pi_terms.specs.Tree.{Tree}
 use Rattle.pi_meaning.specs.Shared.View.{View}
-use Rattle.pi_meaning.specs.Traces.Trace.{Out, noted}
+use Rattle.pi_traces.specs.Trace.{Out, noted}
 use Rattle.pi_core.specs.declared.core_program.NameSlot.{NameSlot}
 use Rattle.pi_core.specs.declared.answer.Answer.{Answer}
 use Rattle.pi_engine_code.specs.declared.code.Code.{Code}

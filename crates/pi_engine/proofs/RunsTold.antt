@@ -6,8 +6,8 @@ use Rattle.pi_constraints.specs.Store.{StoreView}
 use Rattle.pi_meaning.specs.Shared.View.{View}
 use Rattle.pi_meaning.specs.CoreMeaning.Instances.{no_later, whole}
 use Rattle.pi_core.specs.CoreTree.{PredTree, QueryTree}
-use Rattle.pi_meaning.specs.Traces.Depth.{Spent}
-use Rattle.pi_meaning.specs.Traces.Trace.{End, Done, Raise, Tick, Load, Out, Emitted, noted, answered, count_ticks}
+use Rattle.pi_traces.specs.Depth.{Spent}
+use Rattle.pi_traces.specs.Trace.{End, Done, Raise, Tick, Load, Out, Emitted, noted, answered, count_ticks}
 use Rattle.pi_meaning.specs.CoreMeaning.Run.{Solution, IsRunUnder}
 use Rattle.pi_meaning.specs.CoreMeaning.Sound.{IsSoundQuery}
 use Rattle.pi_core.specs.declared.core_program.NameSlot.{NameSlot}

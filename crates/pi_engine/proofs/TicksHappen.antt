@@ -3,8 +3,8 @@ use Rattle.std.proofs.Common.{inl, ℕ, zero, suc, ◌+◌, List, [], ◌∷◌,
 use Rattle.pi_meaning.specs.Shared.View.{View}
 use Rattle.pi_meaning.specs.CoreMeaning.Instances.{no_later, whole}
 use Rattle.pi_core.specs.CoreTree.{PredTree, QueryTree}
-use Rattle.pi_meaning.specs.Traces.Depth.{Spent}
-use Rattle.pi_meaning.specs.Traces.Trace.{Raise, Tick, Out, Emitted, noted, answered, count_ticks}
+use Rattle.pi_traces.specs.Depth.{Spent}
+use Rattle.pi_traces.specs.Trace.{Raise, Tick, Out, Emitted, noted, answered, count_ticks}
 use Rattle.pi_meaning.specs.CoreMeaning.Run.{Solution, IsRunUnder}
 use Rattle.pi_meaning.specs.declared.happening.Budget.{Budget}
 use Rattle.pi_meaning.specs.declared.happening.Happening.{Happening}

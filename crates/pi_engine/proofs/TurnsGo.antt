@@ -7,7 +7,7 @@ use Rattle.pi_constraints.specs.State.{State}
 use Rattle.pi_core.specs.GoalTree.{GoalTrees}
 use Rattle.pi_meaning.specs.Shared.View.{View}
 use Rattle.pi_core.specs.CoreTree.{PredTree}
-use Rattle.pi_meaning.specs.Traces.Trace.{End, Done, Raise, Abort, Miss, Deep, Tick, Out, noted, Emitted, answered}
+use Rattle.pi_traces.specs.Trace.{End, Done, Raise, Abort, Miss, Deep, Tick, Out, noted, Emitted, answered}
 use Rattle.pi_meaning.specs.CoreMeaning.Run.{Solution}
 use Rattle.pi_core.specs.declared.core_program.NameSlot.{NameSlot}
 use Rattle.pi_core.specs.declared.answer.Answer.{Answer}

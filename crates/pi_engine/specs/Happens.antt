@@ -1,8 +1,8 @@
 -- What a call of `next` comes to, for those that use a machine: notes that it adds to the run's events, and then its answer,
 -- its output, or where the run stops.
 use Rattle.std.specs.Prelude.{◌≡◌, ◌⊎◌, ◌≤◌, ℕ, ◌+◌, List, [], ◌∷◌, ◌++◌, Option, Some, None, ⊤}
-use Rattle.pi_meaning.specs.Traces.Trace.{End, Done, Raise, Note, Tick, Load, Out, Emitted, noted, answered, count_ticks}
-use Rattle.pi_meaning.specs.Traces.Depth.{Cut, Spent, with_events}
+use Rattle.pi_traces.specs.Trace.{End, Done, Raise, Note, Tick, Load, Out, Emitted, noted, answered, count_ticks}
+use Rattle.pi_traces.specs.Depth.{Cut, Spent, with_events}
 use Rattle.pi_meaning.specs.Shared.View.{View}
 use Rattle.pi_meaning.specs.CoreMeaning.Instances.{no_later, whole}
 use Rattle.pi_meaning.specs.CoreMeaning.Run.{Solution, IsRunUnder}

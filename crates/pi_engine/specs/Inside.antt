@@ -1,7 +1,7 @@
 -- Where the run of a machine is, by what the machine has inside. Those that use it need none of this: they read `Seen` and `Runs`.
 use Rattle.std.specs.Prelude.{◌≡◌, List, ◌++◌, ⊤}
 use Rattle.pi_constraints.specs.Store.{Terms}
-use Rattle.pi_meaning.specs.Traces.Trace.{End, Done, Note, Tick, Emitted}
+use Rattle.pi_traces.specs.Trace.{End, Done, Note, Tick, Emitted}
 use Rattle.pi_meaning.specs.Shared.View.{View}
 use Rattle.pi_meaning.specs.CoreMeaning.Run.{Solution}
 use Rattle.pi_core.specs.CoreTree.{PredTree, QueryTree}

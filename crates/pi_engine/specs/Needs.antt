@@ -1,7 +1,7 @@
 -- Planner calls that a machine waits for: what it says of its run then, and what it owes where the answer is handed in.
 use Rattle.std.specs.Prelude.{◌≡◌, List, ◌++◌}
 use Rattle.pi_constraints.specs.State.{State}
-use Rattle.pi_meaning.specs.Traces.Trace.{Trace, end, Call, Miss, Emitted}
+use Rattle.pi_traces.specs.Trace.{Trace, end, Call, Miss, Emitted}
 use Rattle.pi_meaning.specs.Shared.View.{View, Wanted, reading}
 use Rattle.pi_meaning.specs.CoreMeaning.Run.{Solution}
 use Rattle.pi_core.specs.CoreTree.{PredTree, QueryTree}

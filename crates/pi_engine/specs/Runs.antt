@@ -1,8 +1,8 @@
 -- The run of a machine, as those that use it see it: its events so far, and its end.
 use Rattle.std.specs.Prelude.{◌≡◌, ℕ, ◌+◌, ◌≤◌, List, ◌++◌}
 use Rattle.pi_terms.specs.Tree.{Tree}
-use Rattle.pi_meaning.specs.Traces.Trace.{End, Done, Emitted, count_ticks}
-use Rattle.pi_meaning.specs.Traces.Depth.{Cut, Ended, with_events}
+use Rattle.pi_traces.specs.Trace.{End, Done, Emitted, count_ticks}
+use Rattle.pi_traces.specs.Depth.{Cut, Ended, with_events}
 use Rattle.pi_meaning.specs.Shared.View.{View}
 use Rattle.pi_meaning.specs.CoreMeaning.Instances.{no_later, whole}
 use Rattle.pi_meaning.specs.CoreMeaning.Run.{Solution, IsRunUnder}

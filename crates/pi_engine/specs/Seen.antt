@@ -2,7 +2,7 @@
 use Rattle.std.specs.Prelude.{◌≡◌, ◌⊎◌, ℕ, List, length, Option, Some, None, ⊤}
 use Rattle.pi_constraints.specs.Store.{StoreView}
 use Rattle.pi_terms.specs.Tree.{Tree}
-use Rattle.pi_meaning.specs.Traces.Trace.{End, Raise, Abort, Note, Tick, Load, Out}
+use Rattle.pi_traces.specs.Trace.{End, Raise, Abort, Note, Tick, Load, Out}
 use Rattle.pi_core.specs.declared.core_program.NameSlot.{NameSlot}
 use Rattle.pi_engine_code.specs.declared.code.Code.{Code}
 use Rattle.pi_meaning.specs.declared.happening.Happening.{Happening}

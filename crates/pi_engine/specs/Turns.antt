@@ -1,6 +1,6 @@
 -- What a step of the machine's code does, and what a call of `next` comes to.
 use Rattle.std.specs.Prelude.{◌≡◌, ◌⊎◌, List, [], ◌∷◌, ◌++◌, ⊤}
-use Rattle.pi_meaning.specs.Traces.Trace.{Out, Emitted, noted, answered}
+use Rattle.pi_traces.specs.Trace.{Out, Emitted, noted, answered}
 use Rattle.pi_meaning.specs.Shared.View.{View}
 use Rattle.pi_meaning.specs.CoreMeaning.Run.{Solution}
 use Rattle.pi_core.specs.declared.core_program.NameSlot.{NameSlot}

@@ -6,7 +6,7 @@ ghost use Rattle.pi_core.specs.CoreTree.{PredTree, QueryTree, program_tree, quer
 ghost use Rattle.pi_meaning.specs.CoreMeaning.Run.{Solution};
 ghost use Rattle.pi_meaning.specs.CoreMeaning.Sound.{IsSoundQuery};
 ghost use Rattle.pi_meaning.specs.CoreMeaning.Defined.{QueryCallsDefined, NamesAreFree};
-ghost use Rattle.pi_meaning.specs.Traces.Trace.{Emitted};
+ghost use Rattle.pi_traces.specs.Trace.{Emitted};
 ghost use Rattle.pi_meaning.specs.Shared.View.{View};
 ghost use Rattle.pi_meaning.specs.Machine.Budget.{Counts, IsWithin};
 ghost use Rattle.pi_meaning.specs.Machine.Built.{AreOfRules};

@@ -5,7 +5,7 @@ use Rattle.pi_terms.specs.Tree.{Tree}
 use Rattle.pi_terms.specs.Places.{Places}
 use Rattle.pi_meaning.specs.Shared.View.{View}
 use Rattle.pi_core.specs.CoreTree.{PredTree}
-use Rattle.pi_meaning.specs.Traces.Trace.{Tick, noted}
+use Rattle.pi_traces.specs.Trace.{Tick, noted}
 use Rattle.pi_core.specs.declared.core_program.NameSlot.{NameSlot}
 use Rattle.pi_core.specs.GoalTree.{GoalTree, GoalTrees, no_goals, goal, truth, fail, tick, call, apply, seq, alternatives, if_else, not, once, collect, count, catch, nodes}
 use Rattle.pi_core.specs.GoalCells.{kind_of}

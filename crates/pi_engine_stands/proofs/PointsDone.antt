@@ -5,7 +5,7 @@ use Rattle.pi_terms.specs.Tree.{Tree}
 use Rattle.pi_terms.specs.Places.{Places}
 use Rattle.pi_meaning.specs.Shared.View.{View}
 use Rattle.pi_core.specs.CoreTree.{PredTree}
-use Rattle.pi_meaning.specs.Traces.Trace.{Raise, answered}
+use Rattle.pi_traces.specs.Trace.{Raise, answered}
 use Rattle.pi_meaning.specs.CoreMeaning.Run.{Solution}
 use Rattle.pi_core.specs.GoalTree.{GoalTrees, no_goals, goal}
 use Rattle.pi_core.specs.declared.core_program.NameSlot.{NameSlot}

@@ -1,7 +1,7 @@
 -- Goals that have no further answer: the newest entry is come back to, and says what is next.
 use Rattle.std.specs.Prelude.{◌≡◌, ℕ, suc, List, ◌∷◌, Some, length, slice_get}
 use Rattle.pi_constraints.specs.State.{IsState}
-use Rattle.pi_meaning.specs.Traces.Trace.{End, Done, Raise}
+use Rattle.pi_traces.specs.Trace.{End, Done, Raise}
 use Rattle.pi_engine_arenas.specs.declared.arenas.Back.{Back}
 use Rattle.pi_engine_arenas.specs.declared.run.End.{End as RunEnd}
 use Rattle.pi_engine_arenas.specs.declared.run.Now.{Now}

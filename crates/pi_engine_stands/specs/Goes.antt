@@ -1,6 +1,6 @@
 -- What the machine's code does over steps of the machine as data: Ticks that are counted, an answer, and where it is then.
 use Rattle.std.specs.Prelude.{◌≡◌, ◌-◌, ◌<◌, ℕ, slice_get, Some, Bool, true, false, List, ⊤}
-use Rattle.pi_meaning.specs.Traces.Trace.{Done, Raise, Emitted}
+use Rattle.pi_traces.specs.Trace.{Done, Raise, Emitted}
 use Rattle.pi_meaning.specs.Shared.View.{View}
 use Rattle.pi_meaning.specs.CoreMeaning.Run.{Solution}
 use Rattle.pi_core.specs.declared.core_program.NameSlot.{NameSlot}

@@ -8,6 +8,7 @@ pub mod GrowRules
 pub mod ValueLemmas
 pub mod ClausalLemmas
 pub mod TextLemmas
+pub mod ToldCuts
 pub mod FormNames
 pub mod OtherEnvironments
 pub mod OtherControl

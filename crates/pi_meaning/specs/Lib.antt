@@ -1,4 +1,3 @@
-pub mod Traces
 pub mod Shared
 pub mod CoreMeaning
 pub mod Machine

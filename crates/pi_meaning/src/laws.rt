@@ -3,4 +3,3 @@
 pub mod machine;
 pub mod meaning;
 pub mod names;
-pub mod traces;

@@ -2,9 +2,9 @@
 use Rattle.std.specs.Prelude.{◌≢◌, ℕ, zero, suc, ◌<◌, ◌≤◌, Bool, true, false, List, [], ◌∷◌, ◌++◌, length, get_or}
 use Rattle.std.proofs.Common.{arith, inl, inr}
 use Rattle.pi_terms.specs.Tree.{Tree}
-use Rattle.pi_meaning.specs.Traces.Trace.{Trace, end, note, ans, Done, Raise, Abort, Miss, Deep, one, alt, then, answers}
-use Rattle.pi_meaning.specs.Traces.Control.{caught, chosen}
-use Rattle.pi_meaning.proofs.Traces.AnswerLemmas.{EachAnswer, each-map, each-alt, each-then}
+use Rattle.pi_traces.specs.Trace.{Trace, end, note, ans, Done, Raise, Abort, Miss, Deep, one, alt, then, answers}
+use Rattle.pi_traces.specs.Control.{caught, chosen}
+use Rattle.pi_traces.proofs.AnswerLemmas.{EachAnswer, each-map, each-alt, each-then}
 use Rattle.pi_resume_spec.specs.Ways.{Way, Ways, straight, without_choices, choosing, numbered, behind, followed_by, choice_from, choice, catching, Diverge, Apart}
 use Rattle.pi_resume_spec.specs.Resumed.{Search, RuleSearch, rest_unless, rules_ways, rules_search, chosen_search}
 use Rattle.pi_resume_spec.specs.PathLaws.{StraightIsApart, SequencesAreApart, AllApart, ChoicesAreApart, CatchesAreApart, AllBodiesApart, RulesAreApart, ConditionsAreApart, TicksAreApart, NoTwoPathsAreOne}

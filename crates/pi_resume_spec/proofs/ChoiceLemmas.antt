@@ -2,9 +2,9 @@
 use Rattle.std.specs.Prelude.{◌≡◌, ℕ, suc, ◌+◌, Bool, true, false, List, [], ◌∷◌, ◌++◌, refl}
 use Rattle.std.proofs.Common.{arith, sym, ◌∙◌, ap, subst, inl, inr}
 use Rattle.pi_terms.specs.Tree.{Tree}
-use Rattle.pi_meaning.specs.Traces.Trace.{Trace, end, note, ans, Done, Raise, Abort, Miss, Deep, Note, Tick, Load, Out, done, one, alt, then, end_of}
-use Rattle.pi_meaning.specs.Traces.Control.{caught, chosen}
-use Rattle.pi_meaning.proofs.Traces.TraceLemmas.{alt-done}
+use Rattle.pi_traces.specs.Trace.{Trace, end, note, ans, Done, Raise, Abort, Miss, Deep, Note, Tick, Load, Out, done, one, alt, then, end_of}
+use Rattle.pi_traces.specs.Control.{caught, chosen}
+use Rattle.pi_traces.proofs.TraceLemmas.{alt-done}
 use Rattle.pi_resume_spec.specs.Ways.{Way, Ways, choosing, numbered, choice_from}
 use Rattle.pi_resume_spec.specs.Resumed.{Following, on_way, reached, cut_off, bad, passed, Search, with_rest, ways_of, taken_from, alternatives, to_exception, with_handler, caught_at, RuleSearch, rest_unless, rules_ways, on_first, bad_if, rules_taken, rules_search, chosen_search, At, at_first, past_note, past_answer, Leads, IsResumable}
 use Rattle.pi_resume_spec.specs.PathLaws.{AllResumable, ChoicesAreResumable, CatchesAreResumable, AllBodies, RulesAreResumable, TicksAreResumable, ConditionsAreResumable}

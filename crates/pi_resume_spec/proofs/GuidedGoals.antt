@@ -12,8 +12,8 @@ use Rattle.pi_core.specs.CoreTree.{backtracks, find_pred, ClauseTree, PredTree, 
 use Rattle.pi_core.specs.declared.core_program.SlotWatch.{SlotWatch}
 use Rattle.pi_core.specs.declared.core_program.NameSlot.{NameSlot}
 use Rattle.pi_syntax.specs.declared.program.Mode.{Mode}
-use Rattle.pi_meaning.specs.Traces.Trace.{Trace, end, Raise, Deep, Done, done, one, then, first}
-use Rattle.pi_meaning.specs.Traces.Control.{negated, collected, counted}
+use Rattle.pi_traces.specs.Trace.{Trace, end, Raise, Deep, Done, done, one, then, first}
+use Rattle.pi_traces.specs.Control.{negated, collected, counted}
 use Rattle.pi_meaning.specs.Shared.Settle.{settled, settled_from}
 use Rattle.pi_meaning.specs.Shared.Drain.{drained}
 use Rattle.pi_meaning.specs.Shared.Raise.{raised_with}
@@ -24,7 +24,7 @@ use Rattle.pi_meaning.specs.CoreMeaning.Facts.{fact_terms, unified_with, fits_mo
 use Rattle.pi_meaning.specs.CoreMeaning.Rules as core
 use Rattle.pi_meaning.specs.CoreMeaning.Rules.{rules_by, rules, value_run, function_run, application_run}
 use Rattle.pi_meaning.specs.CoreMeaning.Run.{Solution, told}
-use Rattle.pi_meaning.proofs.Traces.AnswerLemmas.{EachAnswer, each-one, each-first, each-negated, each-collected, each-counted, each-then}
+use Rattle.pi_traces.proofs.AnswerLemmas.{EachAnswer, each-one, each-first, each-negated, each-collected, each-counted, each-then}
 use Rattle.pi_resume_spec.specs.Resumed.{Search, simple, alternatives, chosen_search, RuleSearch}
 use Rattle.pi_resume_spec.specs.Searches.{Searches, SearchLevel, bottom, above, level_with, searches_at, below, plain_level, Spot, Tries, only, ticked_at, in_state, draining, strictly}
 use Rattle.pi_resume_spec.specs.ByName.{Offers, or_searched, handled_in, handling}
@@ -60,8 +60,8 @@ Any s = Unit {0}
 each-any : {A : Type 0} (P : A → Type 0) → ((x : A) → P x) → (t : Trace A) → EachAnswer P t
 unfolding EachAnswer
 each-any P all (end e) = tt
-each-any P all (Rattle.pi_meaning.specs.Traces.Trace.note n t) = each-any P all t
-each-any P all (Rattle.pi_meaning.specs.Traces.Trace.ans x t) = (all x, each-any P all t)
+each-any P all (Rattle.pi_traces.specs.Trace.note n t) = each-any P all t
+each-any P all (Rattle.pi_traces.specs.Trace.ans x t) = (all x, each-any P all t)
 
 pub any-guided : (s : Search State) → IsGuided s → Guided Any s
 any-guided s g = record { guided = g; each = each-any (λ w. Unit {0}) (λ w. tt) s.ways }
@@ -289,15 +289,15 @@ one-function b l pred ts s =
     one-chosen (rules (rules_by b.plain l (λ c. false) (λ i c p. value_run b.plain c p)) 0 pred.clauses ts s) (λ a. one a) (raised_with (codes "unresolved_function_call") (comp pred.name ts) s)
     (λ a. one-one a) (one-end Applied (Raise (Rattle.pi_effects.specs.Exception.exception_with (codes "unresolved_function_call") (comp pred.name ts) s)))
 
-one-noted : {A : Type 0} (n : Rattle.pi_meaning.specs.Traces.Trace.Note) (t : Trace A) → OneAtMost t → OneAtMost (Rattle.pi_meaning.specs.Traces.Trace.note n t)
-unfolding Rattle.pi_meaning.specs.Traces.Trace.answers
+one-noted : {A : Type 0} (n : Rattle.pi_traces.specs.Trace.Note) (t : Trace A) → OneAtMost t → OneAtMost (Rattle.pi_traces.specs.Trace.note n t)
+unfolding Rattle.pi_traces.specs.Trace.answers
 one-noted n t h = h
 
 one-entered : (quiet : Bool) (inner below : Option Level) (f : Level → Trace Applied) → ((l : Level) → OneAtMost (f l)) → OneAtMost (core.entered quiet inner below f)
 one-entered true None below f all = one-end Applied Deep
 one-entered true (Some l) below f all = all l
 one-entered false inner None f all = one-end Applied Deep
-one-entered false inner (Some l) f all = one-noted Rattle.pi_meaning.specs.Traces.Trace.Tick (f l) (all l)
+one-entered false inner (Some l) f all = one-noted Rattle.pi_traces.specs.Trace.Tick (f l) (all l)
 
 one-application : (b : Offers) (inner below : Option Level) (o : Option PredTree) (ts : Trees) (s : State) → OneAtMost (application_run b.plain inner below o ts s)
 one-application b inner below None ts s = one-end Applied Done

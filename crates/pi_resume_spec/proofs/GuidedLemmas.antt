@@ -2,9 +2,9 @@
 use Rattle.std.specs.Prelude.{◌≡◌, ℕ, suc, ◌≤◌, ◌+◌, Bool, true, false, List, [], ◌∷◌, length, refl}
 use Rattle.std.proofs.Common.{arith, sym, ap, subst, inl, inr}
 use Rattle.pi_terms.specs.Tree.{Tree}
-use Rattle.pi_meaning.specs.Traces.Trace.{Trace, end, note, ans, End, Done, Raise, Abort, Miss, Deep, one, alt, then, first, answers}
-use Rattle.pi_meaning.specs.Traces.Control.{negated, collected, counted, chosen}
-use Rattle.pi_meaning.proofs.Traces.AnswerLemmas.{EachAnswer, each-one, each-alt, each-then, each-caught, each-chosen}
+use Rattle.pi_traces.specs.Trace.{Trace, end, note, ans, End, Done, Raise, Abort, Miss, Deep, one, alt, then, first, answers}
+use Rattle.pi_traces.specs.Control.{negated, collected, counted, chosen}
+use Rattle.pi_traces.proofs.AnswerLemmas.{EachAnswer, each-one, each-alt, each-then, each-caught, each-chosen}
 use Rattle.pi_resume_spec.specs.Ways.{Way, straight, choosing, numbered, behind, choice_from}
 use Rattle.pi_resume_spec.specs.Resumed.{Search, simple, sequence, ways_of, alternatives, caught_search, RuleSearch, rest_unless, rules_ways, rules_search, ticked, chosen_search, At}
 use Rattle.pi_resume_spec.specs.PathLaws.{AllApart, AllResumable}

@@ -11,7 +11,7 @@ use Rattle.pi_effects.specs.Effect.{Effect, Succeeds, Fails, Writes, Raises, Fun
 use Rattle.pi_effects.specs.Exception.{type_error}
 use Rattle.pi_effects.specs.Items.{each_tree}
 use Rattle.pi_effects.specs.BuiltIns.{built_in_predicate, built_in_function}
-use Rattle.pi_meaning.specs.Traces.Trace.{Trace, end, End, Raise, Deep, Done, answers}
+use Rattle.pi_traces.specs.Trace.{Trace, end, End, Raise, Deep, Done, answers}
 use Rattle.pi_meaning.specs.Shared.View.{View}
 use Rattle.pi_meaning.specs.Shared.Settle.{settled}
 use Rattle.pi_meaning.specs.Shared.Within.{Within, a_query, a_body, is_body, resource_left}

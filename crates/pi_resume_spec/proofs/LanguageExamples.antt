@@ -1,6 +1,6 @@
 -- Small programs and goals with their paths, and runs that are resumed, worked out.
 use Rattle.std.specs.Prelude.{◌≡◌, ℕ, pos, Bool, true, false, List, [], ◌∷◌, Some, None, codes, refl}
-use Rattle.pi_meaning.specs.Traces.Trace.{end, note, ans, Done, Tick, then, alt, first}
+use Rattle.pi_traces.specs.Trace.{end, note, ans, Done, Tick, then, alt, first}
 use Rattle.pi_meaning.specs.CoreMeaning.Run.{Solution, told}
 use Rattle.pi_meaning.specs.Shared.Calls.{function_given}
 use Rattle.pi_meaning.specs.Shared.Names.{later_predicates, is_later_predicate}
@@ -14,7 +14,7 @@ use Rattle.pi_constraints.specs.State.{followed_for, followed}
 use Rattle.pi_constraints.specs.Unify.{in_pairs, assigned, joined, outcome, unified_for, unbound_in, cells_of_pairs, most_pairs, all_unified}
 use Rattle.pi_terms.specs.PatternTree.{PatternTree, slot, no_patterns, pattern}
 use Rattle.pi_core.specs.GoalTree.{GoalTree, truth, call, once, catch, no_goals, goal}
-use Rattle.pi_meaning.specs.Traces.Control.{negated, chosen, collected, counted, caught}
+use Rattle.pi_traces.specs.Control.{negated, chosen, collected, counted, caught}
 use Rattle.pi_meaning.specs.Shared.Settle.{settled}
 use Rattle.pi_meaning.specs.Shared.Drain.{drained}
 use Rattle.pi_constraints.specs.Evaluation.{evaluated, evaluated_all, with_new_variables}
@@ -51,7 +51,7 @@ use Rattle.pi_core.specs.declared.core_program.SlotWatch.{SlotWatch}
 use Rattle.pi_syntax.specs.declared.program.Mode.{Mode}
 use Rattle.pi_terms.specs.PatternTree.{exact_int, exact_atom, compound, PatternTrees}
 use Rattle.pi_core.specs.GoalTree.{fail, tick, apply, seq, if_else, not, collect, count}
-use Rattle.pi_meaning.specs.Traces.Trace.{Note, Out, Deep, End}
+use Rattle.pi_traces.specs.Trace.{Note, Out, Deep, End}
 use Rattle.pi_meaning.specs.CoreMeaning.Facts.{fits_modes, fact_term, fact_terms}
 use Rattle.pi_meaning.specs.CoreMeaning.Rules.{watch_trees}
 use Rattle.pi_meaning.specs.CoreMeaning.Meaning.{slot_value}

@@ -15,7 +15,7 @@ use Rattle.pi_resume_spec.proofs.GuidedNames.{names-offered}
 use Rattle.pi_terms.specs.Tree.{atom, int, comp, no_trees, tree, tree_count}
 use Rattle.pi_constraints.specs.State.{State}
 use Rattle.pi_core.specs.CoreTree.{backtracks, ClauseTree}
-use Rattle.pi_meaning.specs.Traces.Trace.{Raise, Done}
+use Rattle.pi_traces.specs.Trace.{Raise, Done}
 use Rattle.pi_meaning.specs.Shared.Level.{Applied}
 use Rattle.pi_meaning.specs.Shared.Calls.{unknown_name}
 use Rattle.pi_resume_spec.proofs.PlainGoals.{plain-simple}

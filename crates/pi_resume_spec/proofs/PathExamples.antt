@@ -1,8 +1,8 @@
 -- Resumed runs, worked through the definitions.
 use Rattle.std.specs.Prelude.{◌≡◌, ℕ, Bool, true, false, List, [], ◌∷◌, refl}
 use Rattle.pi_terms.specs.Tree.{var}
-use Rattle.pi_meaning.specs.Traces.Trace.{Call, end, note, ans, Done, Raise, Miss, Deep, Tick, Out, done, one, alt, then}
-use Rattle.pi_meaning.specs.Traces.Control.{chosen, caught}
+use Rattle.pi_traces.specs.Trace.{Call, end, note, ans, Done, Raise, Miss, Deep, Tick, Out, done, one, alt, then}
+use Rattle.pi_traces.specs.Control.{chosen, caught}
 use Rattle.pi_resume_spec.specs.Ways.{Way, without_choices, choice_from}
 use Rattle.pi_resume_spec.specs.Resumed.{a_tick, on_way, reached, cut_off, bad, Search, to_answer, simple, with_rest, follows_then, sequence, taken_from, alternatives, to_exception, with_handler, caught_search, RuleSearch, rules_ways, on_first, rules_taken, rules_search, ticked, resumed}
 

@@ -5,15 +5,15 @@ use Rattle.pi_terms.specs.Tree.{Tree, int, Trees, trees_of}
 use Rattle.pi_constraints.specs.State.{State}
 use Rattle.pi_constraints.specs.Evaluation.{Evaluated, evaluated, EvaluatedAll, evaluated_all}
 use Rattle.pi_core.specs.GoalTree.{GoalTree, truth, fail, tick, call, apply, seq, alternatives as any_of, if_else, not, once, collect, count, catch, GoalTrees, no_goals, goal}
-use Rattle.pi_meaning.specs.Traces.Trace.{Trace, end, note, ans, Done, Raise, Abort, Miss, Deep, one, alt, then, first}
-use Rattle.pi_meaning.specs.Traces.Control.{negated, chosen, collected, counted, caught}
+use Rattle.pi_traces.specs.Trace.{Trace, end, note, ans, Done, Raise, Abort, Miss, Deep, one, alt, then, first}
+use Rattle.pi_traces.specs.Control.{negated, chosen, collected, counted, caught}
 use Rattle.pi_meaning.specs.Shared.Settle.{settled}
 use Rattle.pi_meaning.specs.Shared.Level.{Point, calls_at, lower, ticked as ticked_plain, or_called}
 use Rattle.pi_meaning.specs.Shared.Handling.{handling as handling_plain, handled_in as handled_plain}
 use Rattle.pi_meaning.specs.CoreMeaning.Builtins.{predicate_by as predicate_plain, function_by}
 use Rattle.pi_meaning.specs.CoreMeaning.Meaning as over_slots
 use Rattle.pi_meaning.specs.CoreMeaning.Meaning.{Action, meaning, meaning_of_all, meaning_of_any, slot_value, copyable}
-use Rattle.pi_meaning.proofs.Traces.TraceLemmas.{then-one, then-assoc, then-alt}
+use Rattle.pi_traces.proofs.TraceLemmas.{then-one, then-assoc, then-alt}
 use Rattle.pi_resume_spec.specs.Ways.{plain, straight, choice_from}
 use Rattle.pi_resume_spec.specs.Resumed.{Search, simple, sequence, ways_of, alternatives, chosen_search}
 use Rattle.pi_resume_spec.specs.Searches.{Searches, SearchLevel, bottom, above, searches_at, below, plain_calls, plain_level, Spot, point_of, Tries, without_paths, only, in_state, draining, strictly}

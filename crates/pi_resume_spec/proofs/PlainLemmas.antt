@@ -2,9 +2,9 @@
 use Rattle.std.specs.Prelude.{◌≡◌, suc, refl}
 use Rattle.std.proofs.Common.{sym, ◌∙◌, ap}
 use Rattle.pi_terms.specs.Tree.{Tree}
-use Rattle.pi_meaning.specs.Traces.Trace.{Trace, end, note, ans, Done, Raise, Abort, Miss, Deep, one, alt, then}
-use Rattle.pi_meaning.specs.Traces.Control.{caught, chosen}
-use Rattle.pi_meaning.proofs.Traces.TraceLemmas.{then-alt, then-assoc}
+use Rattle.pi_traces.specs.Trace.{Trace, end, note, ans, Done, Raise, Abort, Miss, Deep, one, alt, then}
+use Rattle.pi_traces.specs.Control.{caught, chosen}
+use Rattle.pi_traces.proofs.TraceLemmas.{then-alt, then-assoc}
 use Rattle.pi_resume_spec.specs.Ways.{plain, choosing, numbered, behind, choice_from}
 use Rattle.pi_resume_spec.specs.Resumed.{rest_unless, rules_ways}
 use Rattle.pi_resume_spec.specs.PathLaws.{PlainOfNumbered, PlainOfSequence, PlainOfChoice, PlainOfCatch, PlainOfRules}

@@ -11,8 +11,8 @@ use Rattle.pi_core.specs.CoreTree.{PredTree}
 use Rattle.pi_effects.specs.Effect.{Effect}
 use Rattle.pi_effects.specs.Items.{each_tree}
 use Rattle.pi_effects.specs.BuiltIns.{built_in_predicate}
-use Rattle.pi_meaning.specs.Traces.Trace.{Trace, end, note, Deep, Tick, then}
-use Rattle.pi_meaning.specs.Traces.Control.{caught}
+use Rattle.pi_traces.specs.Trace.{Trace, end, note, Deep, Tick, then}
+use Rattle.pi_traces.specs.Control.{caught}
 use Rattle.pi_meaning.specs.Shared.View.{View}
 use Rattle.pi_meaning.specs.Shared.Settle.{settled}
 use Rattle.pi_meaning.specs.Shared.Builtin.{settled_effect}

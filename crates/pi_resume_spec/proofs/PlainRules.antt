@@ -11,8 +11,8 @@ use Rattle.pi_core.specs.GoalTree.{GoalTree, truth, fail, tick, call, apply, seq
 use Rattle.pi_core.specs.CoreTree.{backtracks, is_pred, find_pred, ClauseTree, PredTree, QueryTree}
 use Rattle.pi_core.specs.declared.core_program.SlotWatch.{SlotWatch}
 use Rattle.pi_syntax.specs.declared.program.Mode.{Mode}
-use Rattle.pi_meaning.specs.Traces.Trace.{Trace, note, Tick, done, one, alt, then}
-use Rattle.pi_meaning.specs.Traces.Control.{chosen}
+use Rattle.pi_traces.specs.Trace.{Trace, note, Tick, done, one, alt, then}
+use Rattle.pi_traces.specs.Control.{chosen}
 use Rattle.pi_meaning.specs.Shared.Drain.{drained}
 use Rattle.pi_meaning.specs.Shared.Level.{Level, level_of, Point}
 use Rattle.pi_meaning.specs.CoreMeaning.Facts.{facts, facts_called, fits_modes}
@@ -20,7 +20,7 @@ use Rattle.pi_meaning.specs.CoreMeaning.Meaning.{meaning, strictly as strictly_p
 use Rattle.pi_meaning.specs.CoreMeaning.Rules as core
 use Rattle.pi_meaning.specs.CoreMeaning.Rules.{RulesBy, rules_by, rule_by, rule_before, chosen_rule, rules, pred_run, application_run, call_run, calls_of, level_at}
 use Rattle.pi_meaning.specs.CoreMeaning.Run.{Solution, answered_with as told_with, query_trace}
-use Rattle.pi_meaning.proofs.Traces.TraceLemmas.{alt-done}
+use Rattle.pi_traces.proofs.TraceLemmas.{alt-done}
 use Rattle.pi_resume_spec.specs.Ways.{plain, choice_from}
 use Rattle.pi_resume_spec.specs.Resumed.{Search, simple, ways_of, alternatives, rest_unless, rules_ways}
 use Rattle.pi_resume_spec.specs.Searches.{Searches, SearchLevel, level_with, plain_calls, plain_level, Spot, point_of, without_paths, strictly}

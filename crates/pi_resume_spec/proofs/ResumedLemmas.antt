@@ -1,7 +1,7 @@
 -- Resumed runs lead where they are to.
 use Rattle.std.specs.Prelude.{◌≡◌, ◌⊎◌, ℕ, List, ◌++◌, refl}
 use Rattle.std.proofs.Common.{sym, ◌∙◌, ap, subst, inl, inr, append_assoc}
-use Rattle.pi_meaning.specs.Traces.Trace.{Trace, end, note, ans, Done, Raise, Abort, Miss, Deep, Note, done, one, alt, then}
+use Rattle.pi_traces.specs.Trace.{Trace, end, note, ans, Done, Raise, Abort, Miss, Deep, Note, done, one, alt, then}
 use Rattle.pi_resume_spec.specs.Ways.{Way, Ways, behind, followed_by}
 use Rattle.pi_resume_spec.specs.Resumed.{Following, on_way, reached, cut_off, bad, Search, with_rest, follows_then, sequence, At, at_first, past_note, past_answer, Leads, IsResumable}
 use Rattle.pi_resume_spec.specs.PathLaws.{SequencesAreResumable}

@@ -1,7 +1,7 @@
 -- A goal without choices resumes behind its answer.
 use Rattle.std.specs.Prelude.{◌≡◌, ◌≤◌, ℕ, List, ◌++◌, length}
 use Rattle.std.proofs.Common.{arith, sym, ap, inl, inr}
-use Rattle.pi_meaning.specs.Traces.Trace.{Trace, end, note, ans, alt, then, answers}
+use Rattle.pi_traces.specs.Trace.{Trace, end, note, ans, alt, then, answers}
 use Rattle.pi_resume_spec.specs.Ways.{Way, Ways, straight, here}
 use Rattle.pi_resume_spec.specs.Resumed.{to_answer, At, Leads}
 use Rattle.pi_resume_spec.specs.PathLaws.{SimpleIsResumable}

@@ -5,8 +5,8 @@ use Rattle.pi_constraints.specs.declared.constraint.Item.{Item}
 use Rattle.pi_constraints.specs.declared.event.Activation.{Activation}
 use Rattle.pi_constraints.specs.Domain.{numbers_from, values_of, overlap, shared, common}
 use Rattle.pi_constraints.specs.State.{State, Agent, Variable, within, bound, on_dom, followed_for, followed, end_agent}
-use Rattle.pi_meaning.specs.Traces.Trace.{end, note, ans, Done, Deep, Tick, Out, Load, done, one, alt, then}
-use Rattle.pi_meaning.specs.Traces.Control.{chosen}
+use Rattle.pi_traces.specs.Trace.{end, note, ans, Done, Deep, Tick, Out, Load, done, one, alt, then}
+use Rattle.pi_traces.specs.Control.{chosen}
 use Rattle.pi_settling.specs.Options.{forward, ValueWord, up, down}
 use Rattle.pi_resume_spec.specs.Ways.{Way, choice_from}
 use Rattle.pi_resume_spec.specs.Resumed.{a_tick, a_load, on_way, reached, cut_off, bad, Search, simple, sequence, alternatives, to_answer, with_rest, follows_then, taken_from, on_first, rules_ways, rules_taken, rules_search, ticked}

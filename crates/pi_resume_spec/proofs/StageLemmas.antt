@@ -4,9 +4,9 @@ use Rattle.std.proofs.Common.{◌∙◌, ap, subst, arith}
 use Rattle.pi_constraints.specs.State.{State, Agent, with_waiting, with_ended}
 use Rattle.pi_constraints.specs.declared.constraint.Item.{Item}
 use Rattle.pi_constraints.specs.declared.event.Activation.{Activation}
-use Rattle.pi_meaning.specs.Traces.Trace.{Trace, end, note, ans, Tick, Raise, Deep, Done, done, one, alt, then}
-use Rattle.pi_meaning.specs.Traces.Control.{chosen}
-use Rattle.pi_meaning.proofs.Traces.AnswerLemmas.{EachAnswer}
+use Rattle.pi_traces.specs.Trace.{Trace, end, note, ans, Tick, Raise, Deep, Done, done, one, alt, then}
+use Rattle.pi_traces.specs.Control.{chosen}
+use Rattle.pi_traces.proofs.AnswerLemmas.{EachAnswer}
 use Rattle.pi_effects.specs.Exception.{type_error}
 use Rattle.pi_settling.specs.Options.{Options, Objective}
 use Rattle.pi_settling.specs.Confined.{confined}

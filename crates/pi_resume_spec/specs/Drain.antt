@@ -4,7 +4,7 @@ use Rattle.std.specs.Prelude.{ℕ, zero, suc, List, [], ◌∷◌, Option, Some,
 use Rattle.pi_terms.specs.Tree.{Tree}
 use Rattle.pi_constraints.specs.State.{State, Agent, with_waiting, with_ended}
 use Rattle.pi_constraints.specs.declared.event.Activation.{Activation}
-use Rattle.pi_meaning.specs.Traces.Trace.{Trace}
+use Rattle.pi_traces.specs.Trace.{Trace}
 use Rattle.pi_settling.specs.Fire.{Rules, SlotValue, event_value}
 use Rattle.pi_settling.specs.Drain.{Lower as PlainLower, living}
 use Rattle.pi_resume_spec.specs.Resumed.{Search, sequence, chosen_search, ticked}

@@ -6,8 +6,8 @@ use Rattle.pi_terms.specs.ListCopies.{new_in_all, list_of_copies}
 use Rattle.pi_constraints.specs.State.{State, next}
 use Rattle.pi_constraints.specs.Evaluation.{Evaluated, evaluated, EvaluatedAll, evaluated_all, with_new_variables}
 use Rattle.pi_core.specs.GoalTree.{GoalTree, truth, fail, tick, call, apply, seq, alternatives as any_of, if_else, not, once, collect, count, catch, GoalTrees, no_goals, goal}
-use Rattle.pi_meaning.specs.Traces.Trace.{Trace, done, one, then, first}
-use Rattle.pi_meaning.specs.Traces.Control.{negated, collected, counted}
+use Rattle.pi_traces.specs.Trace.{Trace, done, one, then, first}
+use Rattle.pi_traces.specs.Control.{negated, collected, counted}
 use Rattle.pi_meaning.specs.CoreMeaning.Builtins.{function_by}
 use Rattle.pi_meaning.specs.CoreMeaning.Meaning.{slot_value, copyable}
 use Rattle.pi_resume_spec.specs.Resumed.{Search, simple, sequence, alternatives, caught_search, chosen_search}

@@ -4,7 +4,7 @@ use Rattle.pi_terms.specs.Tree.{Trees, tree_count}
 use Rattle.pi_constraints.specs.State.{State}
 use Rattle.pi_core.specs.GoalTree.{GoalTree}
 use Rattle.pi_core.specs.CoreTree.{backtracks, ClauseTree, PredTree, QueryTree}
-use Rattle.pi_meaning.specs.Traces.Trace.{Trace, then, one, answers}
+use Rattle.pi_traces.specs.Trace.{Trace, then, one, answers}
 use Rattle.pi_meaning.specs.Shared.Level.{Level}
 use Rattle.pi_meaning.specs.Shared.View.{View}
 use Rattle.pi_meaning.specs.CoreMeaning.Sound.{IsSound}

@@ -1,8 +1,8 @@
 -- The laws of paths and of resumed runs.
 use Rattle.std.specs.Prelude.{◌≡◌, ◌≢◌, ◌≤◌, ℕ, suc, List, [], ◌∷◌, length, AllPairs, ⊤}
 use Rattle.pi_terms.specs.Tree.{Tree}
-use Rattle.pi_meaning.specs.Traces.Trace.{Trace, alt, then, answers}
-use Rattle.pi_meaning.specs.Traces.Control.{caught, chosen}
+use Rattle.pi_traces.specs.Trace.{Trace, alt, then, answers}
+use Rattle.pi_traces.specs.Control.{caught, chosen}
 use Rattle.pi_resume_spec.specs.Ways.{Ways, plain, without_choices, numbered, followed_by, choice_from, choice, catching, Apart}
 use Rattle.pi_resume_spec.specs.Resumed.{Search, simple, sequence, alternatives, caught_search, RuleSearch, rest_unless, rules_ways, rules_search, ticked, chosen_search, IsResumable}
 

@@ -3,7 +3,7 @@ use Rattle.std.specs.Prelude.{ℕ, List, ◌++◌, None, replicate}
 use Rattle.pi_constraints.specs.State.{empty_state}
 use Rattle.pi_core.specs.CoreTree.{PredTree, QueryTree}
 use Rattle.pi_core.specs.declared.core_program.NameSlot.{NameSlot}
-use Rattle.pi_meaning.specs.Traces.Trace.{one}
+use Rattle.pi_traces.specs.Trace.{one}
 use Rattle.pi_meaning.specs.CoreMeaning.Run.{Solution, told}
 use Rattle.pi_resume_spec.specs.Resumed.{Following, Search, simple, sequence, resumed}
 use Rattle.pi_resume_spec.specs.Searches.{SearchLevel, Spot, strictly}

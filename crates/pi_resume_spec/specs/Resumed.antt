@@ -2,8 +2,8 @@
 -- before is passed over, and its outputs are dropped. Where the way ends without the answer the path is bad. (Own.)
 use Rattle.std.specs.Prelude.{◌≡◌, ℕ, zero, suc, Bool, true, false, List, [], ◌∷◌, ◌++◌, map}
 use Rattle.pi_terms.specs.Tree.{Tree}
-use Rattle.pi_meaning.specs.Traces.Trace.{Trace, end, note, ans, End, Done, Raise, Miss, Deep, Note, Tick, Load, Out, done, one, alt, then}
-use Rattle.pi_meaning.specs.Traces.Control.{caught, chosen}
+use Rattle.pi_traces.specs.Trace.{Trace, end, note, ans, End, Done, Raise, Miss, Deep, Note, Tick, Load, Out, done, one, alt, then}
+use Rattle.pi_traces.specs.Control.{caught, chosen}
 use Rattle.pi_resume_spec.specs.Ways.{Way, Ways, here, behind, numbered, followed_by, choice_from, choice, catching}
 
 -- what counts on the way: Ticks, and propagations with their loads. What is written there is dropped

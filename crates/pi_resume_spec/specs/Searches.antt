@@ -3,7 +3,7 @@ use Rattle.std.specs.Prelude.{ℕ, List, Option, Some, None}
 use Rattle.pi_terms.specs.Tree.{Trees}
 use Rattle.pi_terms.specs.Places.{Places}
 use Rattle.pi_constraints.specs.State.{State}
-use Rattle.pi_meaning.specs.Traces.Trace.{Trace, end, Deep, one}
+use Rattle.pi_traces.specs.Trace.{Trace, end, Deep, one}
 use Rattle.pi_meaning.specs.Shared.Level.{Level, lowest, over, Calls, Applied, Point}
 use Rattle.pi_resume_spec.specs.Ways.{plain}
 use Rattle.pi_resume_spec.specs.Resumed.{Search, simple, sequence, ticked}

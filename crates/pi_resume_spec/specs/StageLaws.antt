@@ -10,7 +10,7 @@ use Rattle.pi_settling.specs.Label.{Settling}
 use Rattle.pi_settling.specs.Drain as plain_drain
 use Rattle.pi_settling.specs.Reading.{Solving}
 use Rattle.pi_settling.specs.Rounds as plain_rounds
-use Rattle.pi_meaning.specs.Traces.Trace.{Trace}
+use Rattle.pi_traces.specs.Trace.{Trace}
 use Rattle.pi_resume_spec.specs.Resumed.{Search, At}
 use Rattle.pi_resume_spec.specs.Searches.{without_paths}
 use Rattle.pi_resume_spec.specs.Label.{labelling, solved_for}

@@ -2,8 +2,8 @@
 -- disjunction, the alternative of a labelling and the side of a `catch` are numbers from 1 on; what runs at a strict place adds none. (Own.)
 use Rattle.std.specs.Prelude.{◌≢◌, ◌⊎◌, ℕ, suc, List, [], ◌∷◌, ◌++◌, AllPairs}
 use Rattle.pi_terms.specs.Tree.{Tree}
-use Rattle.pi_meaning.specs.Traces.Trace.{Trace, done, one, alt, then, answers}
-use Rattle.pi_meaning.specs.Traces.Control.{caught}
+use Rattle.pi_traces.specs.Trace.{Trace, done, one, alt, then, answers}
+use Rattle.pi_traces.specs.Control.{caught}
 
 -- an answer with its path
 pub record Way (A : Type 0) : Type 0 where

@@ -3,14 +3,14 @@ use Rattle.std.proofs.Common.{◌≡◌, ℕ, List, ◌++◌, sym, ◌∙◌, ap
 use Rattle.pi_syntax.specs.ExpTree.{ExpTree}
 use Rattle.pi_syntax.specs.ProgramTree.{ProgramTree}
 use Rattle.pi_core.specs.CoreTree.{PredTree, QueryTree}
-use Rattle.pi_meaning.specs.Traces.Depth.{cut}
+use Rattle.pi_traces.specs.Depth.{cut}
 use Rattle.pi_constraints.specs.State.{empty_state}
 use Rattle.pi_meaning.specs.Shared.View.{View}
 use Rattle.pi_meaning.specs.CoreMeaning.Instances.{no_later, whole}
 use Rattle.pi_meaning.specs.CoreMeaning.Run.{query_trace}
 use Rattle.pi_meaning.specs.OverNames.Telling.{place_told, told_trace, told_cut}
 use Rattle.pi_meaning.specs.Shared.Told.{solution_told}
-use Rattle.pi_meaning.proofs.Traces.ToldCuts.{cut-told, stop-told}
+use Rattle.pi_meaning.proofs.OverNames.ToldCuts.{cut-told, stop-told}
 use Rattle.pi_meaning.specs.OverNames.Stages.{LaterStages}
 use Rattle.pi_meaning.specs.OverNames.Run.{answer_names, names_trace}
 use Rattle.pi_rewrite_laws.specs.Laws.{query_from}

@@ -9,8 +9,8 @@ use Rattle.pi_effects.specs.Items.{each_tree}
 use Rattle.pi_effects.specs.BuiltIns.{built_in_predicate, built_in_function, is_predicate, is_function}
 use Rattle.pi_effects.proofs.BuiltInLemmas.{functions-listed, predicates-listed}
 use Rattle.pi_core.specs.CoreTree.{PredTree, find_pred}
-use Rattle.pi_meaning.specs.Traces.Trace.{Trace, end, note, Deep, Tick, one, then}
-use Rattle.pi_meaning.specs.Traces.Control.{caught}
+use Rattle.pi_traces.specs.Trace.{Trace, end, note, Deep, Tick, one, then}
+use Rattle.pi_traces.specs.Control.{caught}
 use Rattle.pi_meaning.specs.Shared.View.{View}
 use Rattle.pi_meaning.specs.Shared.Level.{Level, lowest, over, Applied, calls_at, or_called, or_applied}
 use Rattle.pi_meaning.specs.Shared.Builtin.{settled_effect, function_trace}

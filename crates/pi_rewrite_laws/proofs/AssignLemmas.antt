@@ -6,7 +6,7 @@ use Rattle.pi_terms.specs.Places.{Places}
 use Rattle.pi_constraints.specs.Evaluation.{EvaluatedAll}
 use Rattle.pi_effects.specs.Inner.{itself_name}
 use Rattle.pi_core.specs.GoalTree.{GoalTree}
-use Rattle.pi_meaning.specs.Traces.Trace.{Trace, done, one, then}
+use Rattle.pi_traces.specs.Trace.{Trace, done, one, then}
 use Rattle.pi_meaning.specs.Shared.Level.{Level, Applied, Point}
 use Rattle.pi_meaning.specs.CoreMeaning.Builtins.{Builtins, function_by}
 use Rattle.pi_meaning.specs.Shared.Given.{Setting}

@@ -15,7 +15,7 @@ use Rattle.pi_syntax.specs.PrintTerm.{array_name}
 use Rattle.pi_effects.specs.Items.{list_onto, list_of}
 use Rattle.pi_effects.specs.Texts.{text_list}
 use Rattle.pi_syntax.specs.ExpTree.{ExpTree, var, int, atom, str, list, list_onto as listed_onto, array, call, quote, range, range_by, at, ExpTrees, no_exps, exp}
-use Rattle.pi_meaning.specs.Traces.Trace.{alt}
+use Rattle.pi_traces.specs.Trace.{alt}
 use Rattle.pi_meaning.specs.Shared.Settle.{settled_from}
 use Rattle.pi_meaning.specs.OverNames.Environment.{Environment, known, Valued, ValuedAll, name_valued}
 use Rattle.pi_meaning.specs.OverNames.WrittenRules.{head_arguments}

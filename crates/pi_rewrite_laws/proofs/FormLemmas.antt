@@ -6,7 +6,7 @@ use Rattle.pi_terms.specs.Tree.{trees_of, tree_count}
 use Rattle.pi_effects.specs.Indexing.{index_name}
 use Rattle.pi_syntax.specs.ExpTree.{ExpTree, ExpTrees, no_exps, exp}
 use Rattle.pi_core.specs.GoalTree.{GoalTree}
-use Rattle.pi_meaning.specs.Traces.Trace.{done, one}
+use Rattle.pi_traces.specs.Trace.{done, one}
 use Rattle.pi_meaning.specs.Shared.Level.{Level}
 use Rattle.pi_meaning.specs.CoreMeaning.Builtins.{Builtins}
 use Rattle.pi_meaning.specs.Shared.Given.{Setting}

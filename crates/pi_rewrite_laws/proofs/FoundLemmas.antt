@@ -10,9 +10,9 @@ use Rattle.pi_constraints.specs.State.{State, bindings, next}
 use Rattle.pi_constraints.specs.Evaluation.{Evaluated, with_new_variables}
 use Rattle.pi_effects.specs.Inner.{itself_name}
 use Rattle.pi_core.specs.GoalTree.{GoalTree}
-use Rattle.pi_meaning.specs.Traces.Trace.{Trace, one, then}
-use Rattle.pi_meaning.proofs.Traces.TraceLemmas.{then-one}
-use Rattle.pi_meaning.proofs.Traces.RelatedLemmas.{Same}
+use Rattle.pi_traces.specs.Trace.{Trace, one, then}
+use Rattle.pi_traces.proofs.TraceLemmas.{then-one}
+use Rattle.pi_traces.proofs.RelatedLemmas.{Same}
 use Rattle.pi_meaning.specs.Shared.Level.{Level, Applied, Point}
 use Rattle.pi_meaning.specs.CoreMeaning.Builtins.{Builtins}
 use Rattle.pi_meaning.specs.Shared.Given.{Setting}

@@ -11,9 +11,9 @@ use Rattle.pi_constraints.specs.Evaluation.{EvaluatedAll, evaluated_all}
 use Rattle.pi_constraints.specs.Unify.{unified}
 use Rattle.pi_core.specs.GoalTree.{GoalTree}
 use Rattle.pi_core.specs.CoreTree.{PredTree}
-use Rattle.pi_meaning.specs.Traces.Trace.{Trace, end, note, ans, Done, one, then, done}
-use Rattle.pi_meaning.specs.Traces.Control.{chosen}
-use Rattle.pi_meaning.proofs.Traces.TraceLemmas.{then-one, then-assoc}
+use Rattle.pi_traces.specs.Trace.{Trace, end, note, ans, Done, one, then, done}
+use Rattle.pi_traces.specs.Control.{chosen}
+use Rattle.pi_traces.proofs.TraceLemmas.{then-one, then-assoc}
 use Rattle.pi_meaning.specs.Shared.Settle.{settled_from}
 use Rattle.pi_meaning.specs.Shared.Level.{Level, Point}
 use Rattle.pi_meaning.specs.CoreMeaning.Builtins.{Builtins, predicate_by}

@@ -21,7 +21,7 @@ use Rattle.pi_effects.specs.Exception.{type_error}
 use Rattle.pi_effects.specs.BuiltIns.{answer_in}
 use Rattle.pi_effects.specs.Items.{each_tree, array_parts, list_items, collection_items}
 use Rattle.pi_core.specs.GoalTree.{GoalTree}
-use Rattle.pi_meaning.specs.Traces.Trace.{Trace, end, Raise, one, then}
+use Rattle.pi_traces.specs.Trace.{Trace, end, Raise, one, then}
 use Rattle.pi_meaning.specs.Shared.Level.{Level, Applied, Point}
 use Rattle.pi_meaning.specs.Shared.Builtin.{function_trace}
 use Rattle.pi_meaning.specs.CoreMeaning.Builtins.{Builtins, function_by}

@@ -8,8 +8,8 @@ use Rattle.std.proofs.lemmas.List.Elements.{recursion_from_All}
 use Rattle.pi_syntax.specs.ExpTree.{ExpTree}
 use Rattle.pi_syntax.specs.ProgramTree.{RuleTree, FunctionTree, ProgramTree}
 use Rattle.pi_core.specs.CoreTree.{ClauseTree, PredTree, find_pred}
-use Rattle.pi_meaning.specs.Traces.Trace.{one}
-use Rattle.pi_meaning.proofs.Traces.RelatedLemmas.{Same}
+use Rattle.pi_traces.specs.Trace.{one}
+use Rattle.pi_traces.proofs.RelatedLemmas.{Same}
 use Rattle.pi_meaning.specs.Shared.View.{View}
 use Rattle.pi_meaning.specs.Shared.Level.{Level}
 use Rattle.pi_meaning.specs.CoreMeaning.Builtins.{Builtins}

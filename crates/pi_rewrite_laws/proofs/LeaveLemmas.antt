@@ -11,8 +11,8 @@ use Rattle.pi_effects.specs.Value.{value_of}
 use Rattle.pi_effects.specs.declared.operation.Op.TheVariants.{Add}
 use Rattle.pi_effects.specs.Items.{collection_items}
 use Rattle.pi_syntax.specs.ExpTree.{ExpTree}
-use Rattle.pi_meaning.specs.Traces.Trace.{Trace, end, note, ans, then}
-use Rattle.pi_meaning.proofs.Traces.AnswerLemmas.{EachAnswer, each-map, each-one, each-then}
+use Rattle.pi_traces.specs.Trace.{Trace, end, note, ans, then}
+use Rattle.pi_traces.proofs.AnswerLemmas.{EachAnswer, each-map, each-one, each-then}
 use Rattle.pi_meaning.specs.Shared.Settle.{settled_from}
 use Rattle.pi_meaning.specs.Shared.Level.{Level, calls_at}
 use Rattle.pi_meaning.specs.OverNames.Environment.{Environment, meant, known, Valued, name_valued}

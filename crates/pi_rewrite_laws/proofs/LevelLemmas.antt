@@ -8,7 +8,7 @@ use Rattle.pi_syntax.specs.ExpTree.{ExpTree}
 use Rattle.pi_syntax.specs.ProgramTree.{ProgramTree}
 use Rattle.pi_syntax.specs.declared.program.Mode.{Mode}
 use Rattle.pi_core.specs.CoreTree.{PredTree, find_pred}
-use Rattle.pi_meaning.specs.Traces.Trace.{Trace, done, one}
+use Rattle.pi_traces.specs.Trace.{Trace, done, one}
 use Rattle.pi_meaning.specs.Shared.Drain.{drained}
 use Rattle.pi_meaning.specs.Shared.Level.{Level, level_of, calls_at, ticked}
 use Rattle.pi_meaning.specs.CoreMeaning.Builtins.{Builtins}

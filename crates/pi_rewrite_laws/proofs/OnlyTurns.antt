@@ -4,9 +4,9 @@ use Rattle.pi_terms.specs.Tree.{Tree, trees_of}
 use Rattle.pi_constraints.specs.State.{State}
 use Rattle.pi_core.specs.GoalTree.{GoalTree}
 use Rattle.pi_core.specs.CoreTree.{PredTree}
-use Rattle.pi_meaning.specs.Traces.Trace.{Trace, one, then}
-use Rattle.pi_meaning.proofs.Traces.RelatedLemmas.{Same}
-use Rattle.pi_meaning.proofs.Traces.TraceLemmas.{then-one, then-assoc}
+use Rattle.pi_traces.specs.Trace.{Trace, one, then}
+use Rattle.pi_traces.proofs.RelatedLemmas.{Same}
+use Rattle.pi_traces.proofs.TraceLemmas.{then-one, then-assoc}
 use Rattle.pi_meaning.specs.Shared.Level.{Level, calls_at, Point}
 use Rattle.pi_meaning.specs.CoreMeaning.Builtins.{Builtins, predicate_by}
 use Rattle.pi_meaning.specs.Shared.Given.{Setting}

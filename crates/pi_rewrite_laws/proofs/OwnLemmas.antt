@@ -13,7 +13,7 @@ use Rattle.pi_effects.specs.BuiltIns.{is_predicate, built_in_predicate}
 use Rattle.pi_effects.proofs.BuiltInLemmas.{predicates-listed}
 use Rattle.pi_terms.specs.Order.{name_order}
 use Rattle.pi_core.specs.CoreTree.{PredTree, is_pred, find_pred}
-use Rattle.pi_meaning.specs.Traces.Trace.{Trace}
+use Rattle.pi_traces.specs.Trace.{Trace}
 use Rattle.pi_meaning.specs.Shared.Level.{Level}
 use Rattle.pi_meaning.specs.Shared.View.{View}
 use Rattle.pi_meaning.specs.CoreMeaning.Builtins.{Builtins}

@@ -28,7 +28,7 @@ use Rattle.pi_effects.specs.Texts.{text_functions}
 use Rattle.pi_effects.specs.Inner.{range_count_name, pair_parts, range_count}
 use Rattle.pi_effects.specs.BuiltIns.{reading_functions, built_in_function, is_function, answer_in}
 use Rattle.pi_effects.proofs.RangeLemmas.{bits-fit, fits-bits, value-fits}
-use Rattle.pi_meaning.specs.Traces.Trace.{one}
+use Rattle.pi_traces.specs.Trace.{one}
 use Rattle.pi_meaning.specs.Shared.Level.{Level}
 use Rattle.pi_meaning.specs.Shared.Builtin.{function_trace}
 use Rattle.pi_meaning.specs.Shared.Given.{Setting}

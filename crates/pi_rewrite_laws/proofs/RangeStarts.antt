@@ -11,7 +11,7 @@ use Rattle.pi_effects.specs.Answer.{Answer}
 use Rattle.pi_effects.specs.Inner.{range_count_name}
 use Rattle.pi_effects.specs.BuiltIns.{answer_in}
 use Rattle.pi_core.specs.GoalTree.{GoalTree}
-use Rattle.pi_meaning.specs.Traces.Trace.{Trace, end, Raise, one, then}
+use Rattle.pi_traces.specs.Trace.{Trace, end, Raise, one, then}
 use Rattle.pi_meaning.specs.Shared.Level.{Level, Applied, Point}
 use Rattle.pi_meaning.specs.Shared.Builtin.{function_trace}
 use Rattle.pi_meaning.specs.CoreMeaning.Builtins.{Builtins}

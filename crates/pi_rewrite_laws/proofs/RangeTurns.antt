@@ -12,9 +12,9 @@ use Rattle.pi_effects.specs.Ranges.{most_items}
 use Rattle.pi_effects.specs.BuiltIns.{answer_in}
 use Rattle.pi_core.specs.GoalTree.{GoalTree}
 use Rattle.pi_core.specs.CoreTree.{PredTree}
-use Rattle.pi_meaning.specs.Traces.Trace.{Trace, end, note, Deep, Tick, one, then, done}
-use Rattle.pi_meaning.specs.Traces.Control.{chosen}
-use Rattle.pi_meaning.proofs.Traces.TraceLemmas.{then-one, then-assoc}
+use Rattle.pi_traces.specs.Trace.{Trace, end, note, Deep, Tick, one, then, done}
+use Rattle.pi_traces.specs.Control.{chosen}
+use Rattle.pi_traces.proofs.TraceLemmas.{then-one, then-assoc}
 use Rattle.pi_meaning.specs.Shared.Level.{Level, lowest, over, Calls, lower, Point}
 use Rattle.pi_meaning.specs.Shared.Builtin.{function_trace}
 use Rattle.pi_meaning.specs.CoreMeaning.Builtins.{Builtins, predicate_by}

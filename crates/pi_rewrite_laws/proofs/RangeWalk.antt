@@ -7,7 +7,7 @@ use Rattle.pi_constraints.specs.State.{State}
 use Rattle.pi_effects.specs.Ranges.{most_items, values_by}
 use Rattle.pi_syntax.specs.ExpTree.{ExpTree}
 use Rattle.pi_core.specs.GoalTree.{GoalTree}
-use Rattle.pi_meaning.specs.Traces.Trace.{Trace, note, Tick, one, then}
+use Rattle.pi_traces.specs.Trace.{Trace, note, Tick, one, then}
 use Rattle.pi_meaning.specs.Shared.Level.{Level, lowest, over, Calls, lower, ticked, Point}
 use Rattle.pi_meaning.specs.CoreMeaning.Builtins.{Builtins, predicate_by}
 use Rattle.pi_meaning.specs.Shared.Given.{Setting}

@@ -10,9 +10,9 @@ use Rattle.pi_constraints.specs.State.{State, next}
 use Rattle.pi_constraints.specs.Unify.{unified}
 use Rattle.pi_constraints.specs.Evaluation.{Evaluated, EvaluatedAll, slot_term, evaluated, evaluated_all, with_new_variables}
 use Rattle.pi_core.specs.GoalTree.{GoalTree, truth, fail, tick, call, apply, seq, alternatives, if_else, not, once, collect, count, catch, GoalTrees, no_goals, goal}
-use Rattle.pi_meaning.specs.Traces.Trace.{Trace, end, note, ans, one, alt, then, first, answers}
-use Rattle.pi_meaning.specs.Traces.Control.{negated, chosen, caught}
-use Rattle.pi_meaning.proofs.Traces.AnswerLemmas.{EachAnswer, each-map, each-one, each-alt, each-then, each-first, each-negated, each-chosen, each-collected, each-counted, each-caught}
+use Rattle.pi_traces.specs.Trace.{Trace, end, note, ans, one, alt, then, first, answers}
+use Rattle.pi_traces.specs.Control.{negated, chosen, caught}
+use Rattle.pi_traces.proofs.AnswerLemmas.{EachAnswer, each-map, each-one, each-alt, each-then, each-first, each-negated, each-chosen, each-collected, each-counted, each-caught}
 use Rattle.pi_meaning.specs.Shared.Settle.{settled}
 use Rattle.pi_meaning.specs.Shared.Level.{Level, lowest, over, Calls, Applied, Point, calls_at}
 use Rattle.pi_meaning.specs.Shared.Handling.{handled_in, handling}

@@ -13,8 +13,8 @@ use Rattle.pi_effects.specs.BuiltIns.{built_in_predicate, built_in_function, Onl
 use Rattle.pi_effects.specs.Items.{each_tree}
 use Rattle.pi_effects.proofs.BuiltInLemmas.{functions-make, predicates-unify}
 use Rattle.pi_core.specs.CoreTree.{PredTree}
-use Rattle.pi_meaning.specs.Traces.Trace.{Trace, end, note, Deep, Tick, alt, then, answers}
-use Rattle.pi_meaning.proofs.Traces.AnswerLemmas.{EachAnswer, each-map, each-one, each-then, each-caught}
+use Rattle.pi_traces.specs.Trace.{Trace, end, note, Deep, Tick, alt, then, answers}
+use Rattle.pi_traces.proofs.AnswerLemmas.{EachAnswer, each-map, each-one, each-then, each-caught}
 use Rattle.pi_meaning.specs.Shared.Settle.{settled}
 use Rattle.pi_meaning.specs.Shared.View.{View}
 use Rattle.pi_meaning.specs.Shared.Level.{Level, lowest, over, calls_at, or_called, or_applied}

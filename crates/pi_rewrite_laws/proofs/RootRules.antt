@@ -13,8 +13,8 @@ use Rattle.pi_core.specs.GoalTree.{GoalTree, truth, goals_of}
 use Rattle.pi_core.specs.CoreTree.{ClauseTree, PredTree, backtracks, find_pred}
 use Rattle.pi_core.specs.declared.core_program.SlotWatch.{SlotWatch}
 use Rattle.pi_syntax.specs.declared.program.Mode.{Mode}
-use Rattle.pi_meaning.specs.Traces.Trace.{Trace, one, done}
-use Rattle.pi_meaning.proofs.Traces.AnswerLemmas.{EachAnswer, each-map, each-one, each-alt, each-then, each-chosen}
+use Rattle.pi_traces.specs.Trace.{Trace, one, done}
+use Rattle.pi_traces.proofs.AnswerLemmas.{EachAnswer, each-map, each-one, each-alt, each-then, each-chosen}
 use Rattle.pi_meaning.specs.Shared.Settle.{settled, settled_from}
 use Rattle.pi_meaning.specs.Shared.Drain.{drained}
 use Rattle.pi_meaning.specs.Shared.Raise.{raised_with}

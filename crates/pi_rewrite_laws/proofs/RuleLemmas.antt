@@ -11,10 +11,10 @@ use Rattle.pi_syntax.specs.ExpTree.{ExpTree}
 use Rattle.pi_syntax.specs.ProgramTree.{RuleTree, FunctionTree}
 use Rattle.pi_core.specs.GoalTree.{GoalTree, truth, fail, tick, call, apply, seq, alternatives, if_else, not, once, collect, count, catch, goals_of}
 use Rattle.pi_core.specs.CoreTree.{backtracks, ClauseTree}
-use Rattle.pi_meaning.specs.Traces.Trace.{Trace, one, then}
-use Rattle.pi_meaning.specs.Traces.Control.{chosen}
-use Rattle.pi_meaning.proofs.Traces.TraceLemmas.{then-one, then-assoc}
-use Rattle.pi_meaning.proofs.Traces.RelatedLemmas.{Same, same}
+use Rattle.pi_traces.specs.Trace.{Trace, one, then}
+use Rattle.pi_traces.specs.Control.{chosen}
+use Rattle.pi_traces.proofs.TraceLemmas.{then-one, then-assoc}
+use Rattle.pi_traces.proofs.RelatedLemmas.{Same, same}
 use Rattle.pi_meaning.specs.Shared.Level.{Level, Applied, Point}
 use Rattle.pi_meaning.specs.CoreMeaning.Builtins.{Builtins}
 use Rattle.pi_meaning.specs.OverNames.Environment.{Environment, Valued}

@@ -6,8 +6,8 @@ use Rattle.pi_constraints.specs.Value.{value}
 use Rattle.pi_constraints.specs.State.{State, bindings}
 use Rattle.pi_constraints.specs.Evaluation.{Evaluated}
 use Rattle.pi_core.specs.declared.answer.NamedTerm.{NamedTerm}
-use Rattle.pi_meaning.specs.Traces.Trace.{Trace, end, one}
-use Rattle.pi_meaning.proofs.Traces.RelatedLemmas.{Same, same}
+use Rattle.pi_traces.specs.Trace.{Trace, end, one}
+use Rattle.pi_traces.proofs.RelatedLemmas.{Same, same}
 use Rattle.pi_meaning.specs.Shared.Raise.{too_large, within_limit}
 use Rattle.pi_meaning.specs.Shared.Level.{Level, Point}
 use Rattle.pi_meaning.specs.OverNames.Environment.{Environment, Valued, known, name_valued}

@@ -11,7 +11,7 @@ use Rattle.pi_syntax.specs.ExpTree.{ExpTree, var, int, atom, str, list, list_ont
 use Rattle.pi_syntax.specs.Signature.{exp_count}
 use Rattle.pi_core.specs.CoreTree.{PredTree}
 use Rattle.pi_core.specs.GoalTree.{GoalTree}
-use Rattle.pi_meaning.specs.Traces.Trace.{one}
+use Rattle.pi_traces.specs.Trace.{one}
 use Rattle.pi_meaning.specs.OverNames.Texts.{Names, iterated, begins_with_iterator, occurring_all, places, places_all, places_behind, places_caught, places_of_branches, behind, variable_first, occurring, kept_names, assigned}
 use Rattle.pi_meaning.specs.OverNames.Terms.{items_onto}
 use Rattle.pi_meaning.specs.OverNames.Control.{Goal, nothing, in_front, applied_to, goal_at, value_at}

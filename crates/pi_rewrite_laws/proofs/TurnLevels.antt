@@ -5,7 +5,7 @@ use Rattle.pi_terms.specs.Tree.{Trees, tree_count}
 use Rattle.pi_constraints.specs.State.{State}
 use Rattle.pi_core.specs.CoreTree.{PredTree, find_pred}
 use Rattle.pi_syntax.specs.ProgramTree.{ProgramTree}
-use Rattle.pi_meaning.specs.Traces.Trace.{Trace}
+use Rattle.pi_traces.specs.Trace.{Trace}
 use Rattle.pi_meaning.specs.Shared.Level.{Level, lower, or_called}
 use Rattle.pi_meaning.specs.CoreMeaning.Builtins.{Builtins}
 use Rattle.pi_meaning.specs.CoreMeaning.Rules.{call_run, entered, pred_run, calls_of, quiet_level, level_at}

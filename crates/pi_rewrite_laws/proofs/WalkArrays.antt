@@ -15,9 +15,9 @@ use Rattle.pi_effects.specs.BuiltIns.{answer_in}
 use Rattle.pi_effects.specs.Items.{each_tree}
 use Rattle.pi_effects.specs.Indexing.{index_name}
 use Rattle.pi_core.specs.GoalTree.{GoalTree}
-use Rattle.pi_meaning.specs.Traces.Trace.{Trace, end, note, Deep, Tick, one, then, done}
-use Rattle.pi_meaning.specs.Traces.Control.{chosen}
-use Rattle.pi_meaning.proofs.Traces.TraceLemmas.{then-one, then-assoc}
+use Rattle.pi_traces.specs.Trace.{Trace, end, note, Deep, Tick, one, then, done}
+use Rattle.pi_traces.specs.Control.{chosen}
+use Rattle.pi_traces.proofs.TraceLemmas.{then-one, then-assoc}
 use Rattle.pi_meaning.specs.Shared.Level.{Level, lower, Point}
 use Rattle.pi_meaning.specs.Shared.Builtin.{function_trace}
 use Rattle.pi_meaning.specs.CoreMeaning.Builtins.{Builtins, predicate_by}

@@ -22,7 +22,7 @@ use Rattle.pi_effects.specs.Ranges.{range_functions}
 use Rattle.pi_effects.specs.Naming.{naming_functions}
 use Rattle.pi_effects.specs.Texts.{text_functions, writing_predicates}
 use Rattle.pi_effects.specs.BuiltIns.{reading_functions, built_in_function, tests, other_predicates, built_in_predicate, is_predicate, is_function, answer_in, test_in}
-use Rattle.pi_meaning.specs.Traces.Trace.{one, then, alt, done}
+use Rattle.pi_traces.specs.Trace.{one, then, alt, done}
 use Rattle.pi_meaning.specs.Shared.Settle.{settled}
 use Rattle.pi_meaning.specs.Shared.Level.{Level}
 use Rattle.pi_meaning.specs.Shared.Builtin.{effect_trace, function_trace}

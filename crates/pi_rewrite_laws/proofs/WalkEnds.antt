@@ -8,7 +8,7 @@ use Rattle.pi_terms.specs.Tree.{Tree, trees_of}
 use Rattle.pi_terms.specs.ListNames.{nil}
 use Rattle.pi_terms.specs.Places.{Places, held}
 use Rattle.pi_constraints.specs.State.{State, bindings, followed}
-use Rattle.pi_meaning.specs.Traces.Trace.{Trace, then}
+use Rattle.pi_traces.specs.Trace.{Trace, then}
 use Rattle.pi_meaning.specs.Shared.Level.{Level, Point}
 use Rattle.pi_meaning.specs.CoreMeaning.Builtins.{Builtins, predicate_by}
 use Rattle.pi_meaning.specs.Shared.Given.{Setting}

@@ -12,8 +12,8 @@ use Rattle.pi_constraints.specs.HeadMatch.{compound_in, matched_in, matched_all_
 use Rattle.pi_constraints.proofs.MatchLemmas.{name_itself}
 use Rattle.pi_syntax.specs.PrintTerm.{array_name}
 use Rattle.pi_core.specs.GoalTree.{GoalTree}
-use Rattle.pi_meaning.specs.Traces.Trace.{Trace, end, note, Deep, Tick, then, done}
-use Rattle.pi_meaning.specs.Traces.Control.{chosen}
+use Rattle.pi_traces.specs.Trace.{Trace, end, note, Deep, Tick, then, done}
+use Rattle.pi_traces.specs.Control.{chosen}
 use Rattle.pi_meaning.specs.Shared.Level.{Level, lower, Point}
 use Rattle.pi_meaning.specs.CoreMeaning.Builtins.{Builtins, predicate_by}
 use Rattle.pi_meaning.specs.CoreMeaning.Meaning.{meaning}

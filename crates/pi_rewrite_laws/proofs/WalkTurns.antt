@@ -14,7 +14,7 @@ use Rattle.pi_effects.specs.declared.operation.Op.TheVariants.{Add}
 use Rattle.pi_effects.specs.Items.{each_tree, in_front_of, items_of_root, items_for}
 use Rattle.pi_syntax.specs.ExpTree.{ExpTree}
 use Rattle.pi_core.specs.CoreTree.{PredTree}
-use Rattle.pi_meaning.specs.Traces.Trace.{Trace, end, note, Deep, Tick, one, then}
+use Rattle.pi_traces.specs.Trace.{Trace, end, note, Deep, Tick, one, then}
 use Rattle.pi_meaning.specs.Shared.Level.{Level, lowest, over, Calls, lower, ticked}
 use Rattle.pi_meaning.specs.CoreMeaning.Builtins.{Builtins, predicate_by}
 use Rattle.pi_meaning.specs.Shared.Given.{Setting}

@@ -6,10 +6,10 @@ use Rattle.pi_terms.specs.Places.{Places}
 use Rattle.pi_constraints.specs.State.{State}
 use Rattle.pi_core.specs.GoalTree.{GoalTree}
 use Rattle.pi_core.specs.CoreTree.{PredTree}
-use Rattle.pi_meaning.specs.Traces.Trace.{Trace, end, note, Deep, Tick, one, then}
-use Rattle.pi_meaning.specs.Traces.Control.{chosen}
-use Rattle.pi_meaning.proofs.Traces.RelatedLemmas.{Same}
-use Rattle.pi_meaning.proofs.Traces.TraceLemmas.{then-assoc}
+use Rattle.pi_traces.specs.Trace.{Trace, end, note, Deep, Tick, one, then}
+use Rattle.pi_traces.specs.Control.{chosen}
+use Rattle.pi_traces.proofs.RelatedLemmas.{Same}
+use Rattle.pi_traces.proofs.TraceLemmas.{then-assoc}
 use Rattle.pi_meaning.specs.Shared.Level.{Level, lowest, over, Calls, lower, ticked, Point}
 use Rattle.pi_meaning.specs.CoreMeaning.Builtins.{Builtins, predicate_by}
 use Rattle.pi_meaning.specs.Shared.Given.{Setting}

@@ -9,9 +9,9 @@ use Rattle.pi_constraints.specs.Evaluation.{with_new_variables}
 use Rattle.pi_effects.specs.Items.{collection_items}
 use Rattle.pi_syntax.specs.ExpTree.{ExpTree}
 use Rattle.pi_core.specs.GoalTree.{GoalTree}
-use Rattle.pi_meaning.specs.Traces.Trace.{Trace, then}
-use Rattle.pi_meaning.proofs.Traces.TraceLemmas.{then-assoc}
-use Rattle.pi_meaning.proofs.Traces.AnswerLemmas.{EachAnswer}
+use Rattle.pi_traces.specs.Trace.{Trace, then}
+use Rattle.pi_traces.proofs.TraceLemmas.{then-assoc}
+use Rattle.pi_traces.proofs.AnswerLemmas.{EachAnswer}
 use Rattle.pi_meaning.specs.Shared.Level.{Level, Point}
 use Rattle.pi_meaning.specs.CoreMeaning.Builtins.{Builtins}
 use Rattle.pi_meaning.specs.Shared.Given.{Setting}

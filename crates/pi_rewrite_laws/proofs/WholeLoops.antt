@@ -9,9 +9,9 @@ use Rattle.pi_constraints.specs.State.{State, next}
 use Rattle.pi_constraints.specs.Evaluation.{with_new_variables}
 use Rattle.pi_effects.specs.Inner.{itself_name}
 use Rattle.pi_core.specs.GoalTree.{GoalTree}
-use Rattle.pi_meaning.specs.Traces.Trace.{Trace, one, then}
-use Rattle.pi_meaning.proofs.Traces.TraceLemmas.{then-assoc}
-use Rattle.pi_meaning.proofs.Traces.AnswerLemmas.{EachAnswer}
+use Rattle.pi_traces.specs.Trace.{Trace, one, then}
+use Rattle.pi_traces.proofs.TraceLemmas.{then-assoc}
+use Rattle.pi_traces.proofs.AnswerLemmas.{EachAnswer}
 use Rattle.pi_meaning.specs.Shared.Level.{Level, Point}
 use Rattle.pi_meaning.specs.CoreMeaning.Builtins.{Builtins, predicate_by}
 use Rattle.pi_meaning.specs.Shared.Given.{Setting}

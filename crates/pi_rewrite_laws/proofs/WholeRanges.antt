@@ -14,9 +14,9 @@ use Rattle.pi_effects.specs.Ranges.{most_items, values_by}
 use Rattle.pi_effects.specs.BuiltIns.{answer_in}
 use Rattle.pi_syntax.specs.ExpTree.{ExpTree}
 use Rattle.pi_core.specs.GoalTree.{GoalTree}
-use Rattle.pi_meaning.specs.Traces.Trace.{Trace, end, Raise, one, then}
-use Rattle.pi_meaning.proofs.Traces.TraceLemmas.{then-assoc}
-use Rattle.pi_meaning.proofs.Traces.AnswerLemmas.{EachAnswer}
+use Rattle.pi_traces.specs.Trace.{Trace, end, Raise, one, then}
+use Rattle.pi_traces.proofs.TraceLemmas.{then-assoc}
+use Rattle.pi_traces.proofs.AnswerLemmas.{EachAnswer}
 use Rattle.pi_meaning.specs.Shared.Level.{Level, Applied, Point}
 use Rattle.pi_meaning.specs.Shared.Builtin.{function_trace}
 use Rattle.pi_meaning.specs.CoreMeaning.Builtins.{Builtins}

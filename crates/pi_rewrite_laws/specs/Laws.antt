@@ -5,8 +5,8 @@ use Rattle.pi_constraints.specs.State.{State}
 use Rattle.pi_syntax.specs.ExpTree.{ExpTree}
 use Rattle.pi_syntax.specs.ProgramTree.{ProgramTree}
 use Rattle.pi_core.specs.CoreTree.{PredTree, find_pred, QueryTree}
-use Rattle.pi_meaning.specs.Traces.Trace.{Trace, then}
-use Rattle.pi_meaning.specs.Traces.Depth.{Cut}
+use Rattle.pi_traces.specs.Trace.{Trace, then}
+use Rattle.pi_traces.specs.Depth.{Cut}
 use Rattle.pi_meaning.specs.Shared.View.{View}
 use Rattle.pi_meaning.specs.CoreMeaning.Builtins.{Builtins}
 use Rattle.pi_meaning.specs.CoreMeaning.Instances.{is_called_by_name, whole}

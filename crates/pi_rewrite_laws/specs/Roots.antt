@@ -2,7 +2,7 @@
 use Rattle.std.specs.Prelude.{◌≡◌, ℕ, List, All}
 use Rattle.pi_terms.specs.Tree.{Tree, comp, Trees}
 use Rattle.pi_constraints.specs.State.{State, bindings, followed}
-use Rattle.pi_meaning.specs.Traces.Trace.{answers}
+use Rattle.pi_traces.specs.Trace.{answers}
 use Rattle.pi_meaning.specs.Shared.View.{View}
 use Rattle.pi_meaning.specs.Shared.Level.{Level, lowest, over, Calls, Applied}
 use Rattle.pi_meaning.specs.Shared.Given.{Later}

@@ -10,8 +10,8 @@ use Rattle.pi_effects.specs.BuiltIns.{built_in_predicate, built_in_function}
 use Rattle.pi_effects.proofs.BuiltInLemmas.{functions-listed, predicates-listed}
 use Rattle.pi_syntax.specs.ExpTree.{ExpTrees, no_exps, exp}
 use Rattle.pi_syntax.specs.Signature.{exp_count}
-use Rattle.pi_meaning.specs.Traces.Trace.{Trace, end, Done, one, alt, then}
-use Rattle.pi_meaning.proofs.Traces.TraceLemmas.{alt-done, then-assoc}
+use Rattle.pi_traces.specs.Trace.{Trace, end, Done, one, alt, then}
+use Rattle.pi_traces.proofs.TraceLemmas.{alt-done, then-assoc}
 use Rattle.pi_meaning.specs.Shared.View.{View}
 use Rattle.pi_meaning.specs.Shared.Level.{Level, or_called, or_applied}
 use Rattle.pi_meaning.specs.OverNames.Environment.{Valued, ValuedAll}

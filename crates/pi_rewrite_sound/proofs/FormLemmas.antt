@@ -3,7 +3,7 @@ use Rattle.std.specs.Prelude.{◌≡◌, ◌&&◌, ◌||◌, ℕ, Bool, true, fa
 use Rattle.std.specs.Str.{bytes_eq}
 use Rattle.std.proofs.lemmas.Bool.{and_parts}
 use Rattle.pi_terms.specs.Tree.{comp}
-use Rattle.pi_meaning.specs.Traces.Trace.{done, one}
+use Rattle.pi_traces.specs.Trace.{done, one}
 use Rattle.pi_meaning.specs.OverNames.Environment.{Valued}
 use Rattle.pi_meaning.specs.OverNames.Place.{Place}
 use Rattle.pi_meaning.specs.Shared.Names.{is_call}

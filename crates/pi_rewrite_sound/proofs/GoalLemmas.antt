@@ -7,7 +7,7 @@ use Rattle.pi_syntax.specs.PrintTerm.{array_name}
 use Rattle.pi_effects.specs.Indexing.{index_name}
 use Rattle.pi_syntax.specs.ExpTree.{ExpTree, var, int, atom, str, list, list_onto, array, call, quote, index, range, range_by, at, collect, and, or, arrow, if_then, if_else, foreach, while_do, do_while, ExpTrees, no_exps, exp, ExpBranches, no_branches, branch}
 use Rattle.pi_syntax.specs.Signature.{exp_count}
-use Rattle.pi_meaning.specs.Traces.Trace.{one}
+use Rattle.pi_traces.specs.Trace.{one}
 use Rattle.pi_meaning.specs.OverNames.Environment.{Valued}
 use Rattle.pi_meaning.specs.Shared.Names.{is_call}
 use Rattle.pi_meaning.specs.Shared.Given.{Setting}

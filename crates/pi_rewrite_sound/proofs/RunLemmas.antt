@@ -3,8 +3,8 @@ use Rattle.std.specs.Prelude.{◌≡◌, ◌++◌, ℕ, true, [], None, refl}
 use Rattle.std.proofs.Common.{subst}
 use Rattle.pi_syntax.specs.ExpTree.{ExpTree}
 use Rattle.pi_syntax.specs.ProgramTree.{ProgramTree}
-use Rattle.pi_meaning.specs.Traces.Trace.{Trace, then}
-use Rattle.pi_meaning.specs.Traces.Depth.{cut, CutWithoutDeep}
+use Rattle.pi_traces.specs.Trace.{Trace, then}
+use Rattle.pi_traces.specs.Depth.{cut, CutWithoutDeep}
 use Rattle.pi_meaning.specs.Shared.View.{View}
 use Rattle.pi_meaning.specs.Shared.Level.{Level, lowest, over, Calls}
 use Rattle.pi_meaning.specs.OverNames.Place.{Place, beginning}

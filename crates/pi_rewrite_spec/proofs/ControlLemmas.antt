@@ -6,9 +6,9 @@ use Rattle.pi_terms.specs.Places.{Places}
 use Rattle.pi_constraints.specs.State.{State}
 use Rattle.pi_constraints.specs.Evaluation.{Evaluated}
 use Rattle.pi_core.specs.GoalTree.{GoalTree, goals_of}
-use Rattle.pi_meaning.specs.Traces.Trace.{Trace, done, one, first}
-use Rattle.pi_meaning.specs.Traces.Control.{negated, chosen, caught}
-use Rattle.pi_meaning.proofs.Traces.TraceLemmas.{alt-done}
+use Rattle.pi_traces.specs.Trace.{Trace, done, one, first}
+use Rattle.pi_traces.specs.Control.{negated, chosen, caught}
+use Rattle.pi_traces.proofs.TraceLemmas.{alt-done}
 use Rattle.pi_meaning.specs.Shared.Settle.{settled}
 use Rattle.pi_meaning.specs.Shared.Level.{Level, calls_at, Point}
 use Rattle.pi_meaning.specs.CoreMeaning.Builtins.{Builtins}

@@ -11,8 +11,8 @@ use Rattle.pi_effects.specs.Effect.{succeeds_in}
 use Rattle.pi_effects.specs.Items.{list_of, array_of, list_items}
 use Rattle.pi_effects.specs.Inner.{in_order_name}
 use Rattle.pi_core.specs.GoalTree.{GoalTree}
-use Rattle.pi_meaning.specs.Traces.Trace.{Trace, one, then}
-use Rattle.pi_meaning.proofs.Traces.TraceLemmas.{then-assoc}
+use Rattle.pi_traces.specs.Trace.{Trace, one, then}
+use Rattle.pi_traces.proofs.TraceLemmas.{then-assoc}
 use Rattle.pi_meaning.specs.Shared.Settle.{settled, settled_from}
 use Rattle.pi_meaning.specs.Shared.View.{View}
 use Rattle.pi_meaning.specs.Shared.Level.{Level, Applied, calls_at, Point}

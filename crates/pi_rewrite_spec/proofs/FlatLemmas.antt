@@ -6,7 +6,7 @@ use Rattle.pi_terms.specs.Tree.{Tree, Trees}
 use Rattle.pi_terms.specs.ListNames.{nil}
 use Rattle.pi_syntax.specs.PrintTerm.{array_name}
 use Rattle.pi_syntax.specs.ExpTree.{ExpTree, var, int, atom, str, list, list_onto, array, quote, ExpTrees, no_exps, exp}
-use Rattle.pi_meaning.specs.Traces.Trace.{Trace, done, one, then}
+use Rattle.pi_traces.specs.Trace.{Trace, done, one, then}
 use Rattle.pi_meaning.specs.Shared.Level.{Level}
 use Rattle.pi_meaning.specs.Shared.Given.{Setting}
 use Rattle.pi_meaning.specs.OverNames.Environment.{Valued, ValuedAll}

@@ -24,7 +24,7 @@ use Rattle.pi_effects.specs.Naming.{naming_functions}
 use Rattle.pi_effects.specs.Texts.{text_functions}
 use Rattle.pi_effects.specs.Inner.{itself_name, in_order_name}
 use Rattle.pi_effects.specs.BuiltIns.{reading_functions, built_in_function, is_function, answer_in}
-use Rattle.pi_meaning.specs.Traces.Trace.{one}
+use Rattle.pi_traces.specs.Trace.{one}
 use Rattle.pi_meaning.specs.Shared.Level.{Level}
 use Rattle.pi_meaning.specs.Shared.Builtin.{function_trace}
 use Rattle.pi_meaning.specs.Shared.Given.{Setting}

@@ -5,8 +5,8 @@ use Rattle.pi_terms.specs.Tree.{Tree, Trees, trees_of, tree_count}
 use Rattle.pi_terms.specs.Places.{Places}
 use Rattle.pi_constraints.specs.State.{State}
 use Rattle.pi_core.specs.GoalTree.{GoalTree, goals_of}
-use Rattle.pi_meaning.specs.Traces.Trace.{Trace, one, then}
-use Rattle.pi_meaning.proofs.Traces.TraceLemmas.{alt-done, then-one, then-assoc}
+use Rattle.pi_traces.specs.Trace.{Trace, one, then}
+use Rattle.pi_traces.proofs.TraceLemmas.{alt-done, then-one, then-assoc}
 use Rattle.pi_meaning.specs.Shared.Level.{Level, calls_at, Point}
 use Rattle.pi_meaning.specs.CoreMeaning.Builtins.{Builtins, predicate_by, function_by}
 use Rattle.pi_meaning.specs.Shared.Names.{is_call, is_given_predicate, is_given_function}

@@ -1,10 +1,10 @@
 -- Traces that are the same but for their answers, which stand in a relation.
 use Rattle.std.proofs.Common.{◌≡◌, ℕ, suc, List, [], ◌∷◌, refl, ap, subst}
 use Rattle.pi_terms.specs.Tree.{Tree}
-use Rattle.pi_meaning.specs.Traces.Trace.{Trace, end, note, ans, End, Done, Raise, Note, one, alt, then, first}
-use Rattle.pi_meaning.specs.Traces.Control.{negated, chosen, collected, counted, caught}
-use Rattle.pi_meaning.proofs.Traces.RelatedLemmas.{Same, same}
-use Rattle.pi_meaning.proofs.Traces.AnswerLemmas.{EachAnswer}
+use Rattle.pi_traces.specs.Trace.{Trace, end, note, ans, End, Done, Raise, Note, one, alt, then, first}
+use Rattle.pi_traces.specs.Control.{negated, chosen, collected, counted, caught}
+use Rattle.pi_traces.proofs.RelatedLemmas.{Same, same}
+use Rattle.pi_traces.proofs.AnswerLemmas.{EachAnswer}
 
 pub data SameBy {A B : Type 0} (R : A → B → Type 0) : Trace A → Trace B → Type 0 where
   same_end : (e : End) → SameBy R (end e) (end e)

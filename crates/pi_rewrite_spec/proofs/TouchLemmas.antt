@@ -9,8 +9,8 @@ use Rattle.pi_constraints.specs.State.{State}
 use Rattle.pi_constraints.specs.Evaluation.{Evaluated, EvaluatedAll, slot_term as slot_comes, evaluated, evaluated_all}
 use Rattle.pi_syntax.specs.ExpTree.{ExpTree}
 use Rattle.pi_core.specs.GoalTree.{GoalTree}
-use Rattle.pi_meaning.specs.Traces.Trace.{Trace, one, then}
-use Rattle.pi_meaning.specs.Traces.Control.{caught}
+use Rattle.pi_traces.specs.Trace.{Trace, one, then}
+use Rattle.pi_traces.specs.Control.{caught}
 use Rattle.pi_meaning.specs.Shared.Level.{Level, calls_at, Point}
 use Rattle.pi_meaning.specs.CoreMeaning.Builtins.{Builtins, predicate_by}
 use Rattle.pi_meaning.specs.Shared.Given.{Setting}

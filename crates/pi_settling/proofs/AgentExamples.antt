@@ -3,8 +3,8 @@ use Rattle.std.specs.Prelude.{◌≡◌, ℕ, zero, suc, nat_lt, pos, Bool, true
 use Rattle.std.proofs.Common.{ap}
 use Rattle.pi_terms.specs.Tree.{Tree, var, int, cells, most_cells}
 use Rattle.pi_terms.specs.Substitution.{instance}
-use Rattle.pi_meaning.specs.Traces.Trace.{Trace, end, note, Raise, Deep, Tick, Load, Out, done, one, alt, then}
-use Rattle.pi_meaning.specs.Traces.Control.{chosen}
+use Rattle.pi_traces.specs.Trace.{Trace, end, note, Raise, Deep, Tick, Load, Out, done, one, alt, then}
+use Rattle.pi_traces.specs.Control.{chosen}
 use Rattle.pi_constraints.specs.Value.{rounds, value}
 use Rattle.pi_constraints.specs.State.{State, Agent, free, bound, on_ins, on_dom, on_dom_any, on_posted, bindings, followed_for, followed, end_agent}
 use Rattle.pi_constraints.specs.declared.event.Activation.{Activation}

@@ -4,7 +4,7 @@ use Rattle.std.proofs.Common.{arith, sym, ◌∙◌, ap, subst, inl, inr}
 use Rattle.pi_constraints.specs.declared.constraint.Item.{Item}
 use Rattle.pi_constraints.specs.declared.domain.Span.{Span}
 use Rattle.pi_constraints.specs.Domain.{has_value, values_of}
-use Rattle.pi_meaning.specs.Traces.Trace.{Trace, end, note, ans, Done, done, one, alt, then, answers, end_of}
+use Rattle.pi_traces.specs.Trace.{Trace, end, note, ans, Done, done, one, alt, then, answers, end_of}
 use Rattle.pi_constraints.specs.State.{State, domain_of}
 use Rattle.pi_constraints.proofs.StateLemmas.{domain_good}
 use Rattle.pi_settling.specs.Roots.{domain_or_all, given, by_domain}

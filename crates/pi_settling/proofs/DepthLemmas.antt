@@ -2,9 +2,9 @@
 use Rattle.std.specs.Prelude.{ℕ, zero, suc, ℤ, List, [], ◌∷◌, Option, Some, None, codes}
 use Rattle.std.proofs.Common.{ap}
 use Rattle.pi_constraints.specs.declared.constraint.Item.{Item}
-use Rattle.pi_meaning.specs.Traces.Trace.{Trace, end, Raise, Tick, done, one, then}
-use Rattle.pi_meaning.specs.Traces.Depth.{Below, deeper, same_note, DepthOnlyAdds}
-use Rattle.pi_meaning.proofs.Traces.BelowLemmas.{below-refl, below-alt, below-then, below-chosen}
+use Rattle.pi_traces.specs.Trace.{Trace, end, Raise, Tick, done, one, then}
+use Rattle.pi_traces.specs.Depth.{Below, deeper, same_note, DepthOnlyAdds}
+use Rattle.pi_traces.proofs.BelowLemmas.{below-refl, below-alt, below-then, below-chosen}
 use Rattle.pi_constraints.specs.State.{State}
 use Rattle.pi_effects.specs.Exception.{type_error}
 use Rattle.pi_settling.specs.Options.{Options, Objective}

@@ -1,12 +1,12 @@
 -- What waits is run in order, and more depth only adds.
 use Rattle.std.specs.Prelude.{◌≡◌, ℕ, zero, suc, List, [], ◌∷◌, Option, Some, None, refl}
 use Rattle.std.proofs.Common.{sym, ◌∙◌, ap}
-use Rattle.pi_meaning.specs.Traces.Trace.{Trace, Tick, one}
-use Rattle.pi_meaning.specs.Traces.Control.{chosen}
-use Rattle.pi_meaning.specs.Traces.Depth.{Below, deeper, same_note}
-use Rattle.pi_meaning.specs.Traces.Related.{BelowBy}
-use Rattle.pi_meaning.proofs.Traces.BelowLemmas.{below-refl, below-then}
-use Rattle.pi_meaning.proofs.Traces.RelatedLemmas.{Same, by-below, below-by, by-chosen}
+use Rattle.pi_traces.specs.Trace.{Trace, Tick, one}
+use Rattle.pi_traces.specs.Control.{chosen}
+use Rattle.pi_traces.specs.Depth.{Below, deeper, same_note}
+use Rattle.pi_traces.specs.Related.{BelowBy}
+use Rattle.pi_traces.proofs.BelowLemmas.{below-refl, below-then}
+use Rattle.pi_traces.proofs.RelatedLemmas.{Same, by-below, below-by, by-chosen}
 use Rattle.pi_constraints.specs.State.{State, Agent, with_waiting, with_ended}
 use Rattle.pi_constraints.specs.declared.event.Activation.{Activation}
 use Rattle.pi_settling.specs.Fire.{Rules, decided, event_value, fired}

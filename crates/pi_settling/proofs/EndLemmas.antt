@@ -14,7 +14,7 @@ use Rattle.pi_constraints.proofs.DomainLemmas.{gap_is, values_ascend, values_lie
 use Rattle.pi_constraints.proofs.CommonLemmas.{two_values}
 use Rattle.pi_prop_spec.specs.Ends.{least_of, greatest_of}
 use Rattle.pi_prop_spec.proofs.EndLemmas.{least-has, greatest-has, least-below, greatest-above}
-use Rattle.pi_meaning.specs.Traces.Trace.{Trace, end, note, ans, Done, done, one, alt, then, end_of}
+use Rattle.pi_traces.specs.Trace.{Trace, end, note, ans, Done, done, one, alt, then, end_of}
 use Rattle.pi_constraints.specs.State.{State, Variable, free, within, bound, domain_in, domain_of, IsState}
 use Rattle.pi_constraints.proofs.StateLemmas.{variable, domain_good}
 use Rattle.pi_settling.specs.Roots.{domain_or_all, given}

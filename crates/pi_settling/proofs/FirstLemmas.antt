@@ -5,7 +5,7 @@ use Rattle.std.proofs.lemmas.Int.{ints}
 use Rattle.std.proofs.lemmas.List.{length-map}
 use Rattle.pi_constraints.specs.declared.constraint.Item.{Item}
 use Rattle.pi_prop_spec.specs.Solutions.{value_of}
-use Rattle.pi_meaning.specs.Traces.Trace.{Trace}
+use Rattle.pi_traces.specs.Trace.{Trace}
 use Rattle.pi_constraints.specs.State.{State}
 use Rattle.pi_settling.specs.Settled.{IsSettled}
 use Rattle.pi_settling.proofs.UniqueLemmas.{settled_is_one}

@@ -8,8 +8,8 @@ use Rattle.pi_constraints.specs.declared.constraint.Constraint.{Constraint}
 use Rattle.pi_constraints.specs.declared.domain.Span.{Span}
 use Rattle.pi_constraints.specs.Domain.{numbers_from, values_of, overlap, shared, common}
 use Rattle.pi_prop_spec.specs.Ends.{greatest_of}
-use Rattle.pi_meaning.specs.Traces.Trace.{Trace, end, note, ans, Done, Raise, Deep, Tick, Load, done, one, alt, then}
-use Rattle.pi_meaning.specs.Traces.Control.{chosen}
+use Rattle.pi_traces.specs.Trace.{Trace, end, note, ans, Done, Raise, Deep, Tick, Load, done, one, alt, then}
+use Rattle.pi_traces.specs.Control.{chosen}
 use Rattle.pi_constraints.specs.State.{State, Variable, free, within, bound, next, empty_state, with_new, followed_for, followed}
 use Rattle.pi_effects.specs.Exception.{type_error}
 use Rattle.pi_settling.specs.Roots.{all_values}

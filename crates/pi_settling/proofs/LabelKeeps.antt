@@ -7,8 +7,8 @@ use Rattle.pi_constraints.specs.declared.constraint.Item.{Item}
 use Rattle.pi_constraints.specs.declared.domain.Span.{Span}
 use Rattle.pi_constraints.specs.Domain.{IsDomain, has_value, values_of, size_of}
 use Rattle.pi_constraints.proofs.CommonLemmas.{first_value, two_values}
-use Rattle.pi_meaning.specs.Traces.Trace.{Trace, end, note, ans, Done, Raise, Load, done, one, alt, then, answers, end_of}
-use Rattle.pi_meaning.proofs.Traces.TraceLemmas.{alt-done}
+use Rattle.pi_traces.specs.Trace.{Trace, end, note, ans, Done, Raise, Load, done, one, alt, then, answers, end_of}
+use Rattle.pi_traces.proofs.TraceLemmas.{alt-done}
 use Rattle.pi_constraints.specs.Value.{IsAcyclic}
 use Rattle.pi_constraints.specs.State.{State, Agent, within, bound, bindings, domain_of, with_waiting, with_domain, IsState}
 use Rattle.pi_constraints.specs.declared.event.Event.{Event}

@@ -9,7 +9,7 @@ use Rattle.pi_constraints.specs.declared.domain.Span.{Span}
 use Rattle.pi_prop_spec.specs.Places.{places_of}
 use Rattle.pi_constraints.specs.State.{State, Variable, free, within, bound}
 use Rattle.pi_constraints.specs.declared.event.Event.{Event}
-use Rattle.pi_meaning.specs.Traces.Trace.{one}
+use Rattle.pi_traces.specs.Trace.{one}
 use Rattle.pi_settling.specs.Roots.{root_item}
 use Rattle.pi_settling.specs.Answers.{activations}
 use Rattle.pi_settling.specs.Events.{events_between}

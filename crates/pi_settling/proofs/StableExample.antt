@@ -9,7 +9,7 @@ use Rattle.pi_constraints.specs.Domain.{AscendFrom, IsDomain, numbers_from, has_
 use Rattle.pi_prop_spec.specs.Places.{sum_places, places_of, domain_at}
 use Rattle.pi_prop_spec.specs.Sums.{least_of_all, least_of_others}
 use Rattle.pi_prop_spec.specs.Filter.{PlaceKeeps, Leaves}
-use Rattle.pi_meaning.specs.Traces.Trace.{note, Load, one}
+use Rattle.pi_traces.specs.Trace.{note, Load, one}
 use Rattle.pi_constraints.specs.State.{State, free, followed_for, followed}
 use Rattle.pi_settling.specs.Roots.{root_item, given, Counts, by_domain, by_place}
 use Rattle.pi_settling.specs.Stable.{Domains, at_places, NoFilterChanges, Stays, Narrows, some_stay, IsStable}

@@ -10,7 +10,7 @@ use Rattle.pi_constraints.specs.declared.constraint.Item.{Item}
 use Rattle.pi_constraints.specs.declared.domain.Span.{Span}
 use Rattle.pi_constraints.specs.Domain.{IsDomain, has_value, values_of, size_of}
 use Rattle.pi_constraints.proofs.DomainLemmas.{values_lie_in_spans, values_ascend, same_values_same_domain}
-use Rattle.pi_meaning.specs.Traces.Trace.{one}
+use Rattle.pi_traces.specs.Trace.{one}
 use Rattle.pi_constraints.specs.State.{State, Agent, Variable, free, within, bound, binding, bindings, next, domain_in, domain_of}
 use Rattle.pi_constraints.specs.declared.event.Activation.{Activation}
 use Rattle.pi_settling.specs.Roots.{given}

@@ -1,9 +1,9 @@
 -- The laws of agents.
 use Rattle.std.specs.Prelude.{◌≡◌, ℕ, List, [], ◌∷◌, Option, Some, None}
 use Rattle.pi_terms.specs.Tree.{Tree}
-use Rattle.pi_meaning.specs.Traces.Trace.{note, Tick, one, then}
-use Rattle.pi_meaning.specs.Traces.Depth.{Below}
-use Rattle.pi_meaning.specs.Traces.Related.{BelowBy}
+use Rattle.pi_traces.specs.Trace.{note, Tick, one, then}
+use Rattle.pi_traces.specs.Depth.{Below}
+use Rattle.pi_traces.specs.Related.{BelowBy}
 use Rattle.pi_constraints.specs.State.{State, Agent, with_waiting}
 use Rattle.pi_constraints.specs.declared.event.Activation.{Activation}
 use Rattle.pi_settling.specs.Fire.{SlotValue, Rules, fired}

@@ -3,7 +3,7 @@ use Rattle.std.specs.Prelude.{◌≡◌, ◌⊎◌, ℕ, ◌+◌, ℤ, ◌<ℤ�
 use Rattle.pi_terms.specs.Tree.{int}
 use Rattle.pi_constraints.specs.declared.constraint.Item.{Item}
 use Rattle.pi_prop_spec.specs.Solutions.{value_of}
-use Rattle.pi_meaning.specs.Traces.Trace.{Trace, end, note, ans, Tick, Load, Out, done}
+use Rattle.pi_traces.specs.Trace.{Trace, end, note, ans, Tick, Load, Out, done}
 use Rattle.pi_constraints.specs.State.{State, with_binding}
 use Rattle.pi_settling.specs.Roots.{root_item}
 use Rattle.pi_settling.specs.Settled.{loaded, IsSettled}

@@ -2,7 +2,7 @@
 -- answer is drained in turn; an activation of an agent that has ended is passed over without one. (A User's Guide to Picat, 'Action Rules'; Ticks and the
 -- order are own.)
 use Rattle.std.specs.Prelude.{ℕ, cond, List, [], ◌∷◌, Option, Some, None, slice_get}
-use Rattle.pi_meaning.specs.Traces.Trace.{Trace, end, note, Deep, Tick, one, then}
+use Rattle.pi_traces.specs.Trace.{Trace, end, note, Deep, Tick, one, then}
 use Rattle.pi_constraints.specs.State.{State, Agent, with_waiting}
 use Rattle.pi_constraints.specs.declared.event.Activation.{Activation}
 use Rattle.pi_settling.specs.Fire.{Rules, fired}

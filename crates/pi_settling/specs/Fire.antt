@@ -3,8 +3,8 @@
 -- apply is a parameter, so that this serves the meaning over names and the core meaning. (That the agent ends is own.)
 use Rattle.std.specs.Prelude.{ℕ, zero, suc, Option, Some, None, slice_get}
 use Rattle.pi_terms.specs.Tree.{Tree}
-use Rattle.pi_meaning.specs.Traces.Trace.{Trace}
-use Rattle.pi_meaning.specs.Traces.Control.{chosen}
+use Rattle.pi_traces.specs.Trace.{Trace}
+use Rattle.pi_traces.specs.Control.{chosen}
 use Rattle.pi_constraints.specs.State.{State, Agent, WatchTree, on_dom, on_dom_any, on_posted, with_ended}
 use Rattle.pi_constraints.specs.declared.event.Activation.{Activation}
 

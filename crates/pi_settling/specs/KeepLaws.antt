@@ -1,7 +1,7 @@
 -- Labelling loses no solution and adds none. (Own.)
 use Rattle.std.specs.Prelude.{◌≡◌, ◌↔◌, ℕ, ℤ, List, [], AllPairs, Contains}
 use Rattle.pi_constraints.specs.declared.constraint.Item.{Item}
-use Rattle.pi_meaning.specs.Traces.Trace.{Trace, Done, answers, end_of}
+use Rattle.pi_traces.specs.Trace.{Trace, Done, answers, end_of}
 use Rattle.pi_constraints.specs.State.{State, IsState}
 use Rattle.pi_settling.specs.Solves.{Solves}
 use Rattle.pi_settling.specs.SettlingLaws.{MaySettle, Settles}

@@ -3,7 +3,7 @@
 -- and the core meaning. (A User's Guide to Picat, 'Constraints'; Ticks, and that what waits runs in between, are own.)
 use Rattle.std.specs.Prelude.{ℕ, zero, suc, List, [], ◌∷◌, Option, Some, None}
 use Rattle.pi_constraints.specs.declared.constraint.Item.{Item}
-use Rattle.pi_meaning.specs.Traces.Trace.{Trace, end, note, Deep, Tick, done, one, alt, then}
+use Rattle.pi_traces.specs.Trace.{Trace, end, note, Deep, Tick, done, one, alt, then}
 use Rattle.pi_constraints.specs.State.{State}
 use Rattle.pi_settling.specs.Options.{Options}
 use Rattle.pi_settling.specs.Confined.{confined}

@@ -4,8 +4,8 @@ use Rattle.pi_terms.specs.Places.{held}
 use Rattle.pi_constraints.specs.declared.constraint.Item.{Item}
 use Rattle.pi_constraints.specs.declared.domain.Span.{Span}
 use Rattle.pi_constraints.specs.Domain.{IsDomain, has_value}
-use Rattle.pi_meaning.specs.Traces.Trace.{Trace, one}
-use Rattle.pi_meaning.specs.Traces.Depth.{DepthOnlyAdds}
+use Rattle.pi_traces.specs.Trace.{Trace, one}
+use Rattle.pi_traces.specs.Depth.{DepthOnlyAdds}
 use Rattle.pi_constraints.specs.State.{State, bindings, next, domain_of, IsState}
 use Rattle.pi_settling.specs.Roots.{root_item}
 use Rattle.pi_settling.specs.Solves.{Solves}

@@ -2,7 +2,7 @@
 -- term as it stands, and is measured first, on a bound X too. (A User's Guide to Picat, 'Action Rules'; that a bound X does nothing, and the limit, are own.)
 use Rattle.std.specs.Prelude.{nat_lt, cond, List, [], ◌∷◌, ◌++◌}
 use Rattle.pi_terms.specs.Tree.{Tree, var, int, atom, comp, cells, most_cells}
-use Rattle.pi_meaning.specs.Traces.Trace.{Trace, end, Raise, one}
+use Rattle.pi_traces.specs.Trace.{Trace, end, Raise, one}
 use Rattle.pi_constraints.specs.Value.{value}
 use Rattle.pi_constraints.specs.State.{State, bindings, followed, with_waiting}
 use Rattle.pi_constraints.specs.declared.event.Event.{Event}

@@ -4,7 +4,7 @@ use Rattle.std.specs.Prelude.{ℕ, List, Result, Ok, Err}
 use Rattle.pi_terms.specs.Tree.{Tree, comp, no_trees, tree}
 use Rattle.pi_constraints.specs.Value.{value}
 use Rattle.pi_constraints.specs.State.{State, bindings, next}
-use Rattle.pi_meaning.specs.Traces.Trace.{Trace, end, Raise, one}
+use Rattle.pi_traces.specs.Trace.{Trace, end, Raise, one}
 use Rattle.pi_settling.specs.Reading.{Reading, Operand, reads, refuses}
 use Rattle.pi_prop_spec.specs.Terms.{operand_of}
 use Rattle.pi_prop_spec.specs.PostingSums.{Sum}

@@ -2,7 +2,7 @@
 use Rattle.std.specs.Prelude.{ℕ, ℤ, List, [], ◌∷◌, Option, Some, None}
 use Rattle.pi_terms.specs.Tree.{Tree}
 use Rattle.pi_constraints.specs.declared.constraint.Item.{Item}
-use Rattle.pi_meaning.specs.Traces.Trace.{Trace}
+use Rattle.pi_traces.specs.Trace.{Trace}
 use Rattle.pi_constraints.specs.State.{State}
 use Rattle.pi_settling.specs.Options.{Options}
 use Rattle.pi_settling.specs.Label.{Settling}

@@ -3,8 +3,8 @@
 -- answer. A later round takes one from the depth. (A User's Guide to Picat, 'Constraints'; the rounds are own.)
 use Rattle.std.specs.Prelude.{ℕ, zero, suc, ℤ, Bool, true, false, List, Option, Some, None, codes}
 use Rattle.pi_terms.specs.Tree.{int}
-use Rattle.pi_meaning.specs.Traces.Trace.{Trace, end, Raise, Deep, done, one, then}
-use Rattle.pi_meaning.specs.Traces.Control.{chosen}
+use Rattle.pi_traces.specs.Trace.{Trace, end, Raise, Deep, done, one, then}
+use Rattle.pi_traces.specs.Control.{chosen}
 use Rattle.pi_constraints.specs.State.{State}
 use Rattle.pi_effects.specs.Exception.{type_error}
 use Rattle.pi_settling.specs.Options.{Objective}

@@ -2,7 +2,7 @@
 -- empty there is no answer. Then the goal's events wake agents. (A User's Guide to Picat, 'Constraints' and 'Action Rules'; own as the files say that it
 -- is made of.)
 use Rattle.std.specs.Prelude.{◌≡◌, ◌⊎◌, ℕ, zero, suc, ◌++◌}
-use Rattle.pi_meaning.specs.Traces.Trace.{Trace, note, Load, one, done}
+use Rattle.pi_traces.specs.Trace.{Trace, note, Load, one, done}
 use Rattle.pi_constraints.specs.State.{State, with_waiting}
 use Rattle.pi_settling.specs.Stable.{IsEmptied, IsStable}
 use Rattle.pi_settling.specs.Events.{events_between}

@@ -8,7 +8,7 @@ use Rattle.pi_constraints.specs.declared.domain.Span.{Span}
 use Rattle.pi_constraints.specs.Domain.{IsWithinBounds, has_value}
 use Rattle.pi_prop_spec.specs.Places.{places_of}
 use Rattle.pi_prop_spec.specs.Solutions.{value_of}
-use Rattle.pi_meaning.specs.Traces.Trace.{Trace, one}
+use Rattle.pi_traces.specs.Trace.{Trace, one}
 use Rattle.pi_constraints.specs.Value.{Bindings, IsAcyclic}
 use Rattle.pi_constraints.specs.State.{State, WatchTree, IsState, bindings, domain_of, LeadsTo}
 use Rattle.pi_constraints.specs.declared.event.Event.{Event}

@@ -6,7 +6,7 @@ use Rattle.pi_constraints.specs.declared.constraint.Rel.{Rel}
 use Rattle.pi_constraints.specs.declared.constraint.Item.{Item}
 use Rattle.pi_constraints.specs.declared.constraint.Constraint.{Constraint}
 use Rattle.pi_prop_spec.specs.Places.{places_of, sum_places}
-use Rattle.pi_meaning.specs.Traces.Trace.{Trace, Done, one, answers, end_of}
+use Rattle.pi_traces.specs.Trace.{Trace, Done, one, answers, end_of}
 use Rattle.pi_constraints.specs.State.{State, bindings, next, SpeaksBelow, IsState}
 use Rattle.pi_settling.specs.Roots.{root_item}
 use Rattle.pi_settling.specs.Stable.{IsStable}

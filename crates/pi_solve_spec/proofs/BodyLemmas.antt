@@ -5,7 +5,7 @@ use Rattle.pi_constraints.specs.Value.{value}
 use Rattle.pi_constraints.specs.State.{State, bindings}
 use Rattle.pi_core.specs.GoalTree.{GoalTree, subgoals}
 use Rattle.pi_core.specs.CoreTree.{PredTree, find_pred}
-use Rattle.pi_meaning.specs.Traces.Trace.{Call, one, then}
+use Rattle.pi_traces.specs.Trace.{Call, one, then}
 use Rattle.pi_core.specs.declared.log.LogEntry.{LogEntry}
 use Rattle.pi_meaning.specs.Shared.Raise.{within_limit}
 use Rattle.pi_meaning.specs.Shared.View.{body_view, Wanted, entry_for, read_entry, reading}

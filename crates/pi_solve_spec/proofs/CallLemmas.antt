@@ -6,7 +6,7 @@ use Rattle.pi_constraints.specs.State.{State, bindings, followed}
 use Rattle.pi_effects.specs.Effect.{Effect, Succeeds, Fails, Writes, Raises}
 use Rattle.pi_effects.specs.Items.{each_tree}
 use Rattle.pi_effects.specs.BuiltIns.{built_in_predicate, built_in_function}
-use Rattle.pi_meaning.specs.Traces.Trace.{Trace, Call, end, note, Deep, Tick}
+use Rattle.pi_traces.specs.Trace.{Trace, Call, end, note, Deep, Tick}
 use Rattle.pi_core.specs.declared.log.LogEntry.{LogEntry}
 use Rattle.pi_meaning.specs.Shared.Builtin.{settled_effect, function_trace}
 use Rattle.pi_meaning.specs.Shared.Level.{Level, lowest, over, Applied, or_called, or_applied}

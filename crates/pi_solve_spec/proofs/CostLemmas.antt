@@ -3,7 +3,7 @@ use Rattle.std.specs.Prelude.{◌≡◌, ◌≢◌, ◌⊎◌, ℕ, ◌+◌, ◌
 use Rattle.std.proofs.Common.{arith, subst, inl, inr}
 use Rattle.std.proofs.lemmas.Int.{ints}
 use Rattle.pi_terms.specs.Tree.{Tree, int}
-use Rattle.pi_meaning.specs.Traces.Trace.{Trace, Done, answers, end_of}
+use Rattle.pi_traces.specs.Trace.{Trace, Done, answers, end_of}
 use Rattle.pi_constraints.specs.State.{State}
 use Rattle.pi_core.specs.declared.log.LogEntry.{LogEntry}
 use Rattle.pi_solve_spec.specs.Bodies.{Offer, Bodies, first_fault}

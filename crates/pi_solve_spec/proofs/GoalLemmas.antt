@@ -7,8 +7,8 @@ use Rattle.pi_terms.specs.Tree.{Tree, Trees, tree, trees_of, tree_count}
 use Rattle.pi_constraints.specs.State.{State}
 use Rattle.pi_constraints.specs.Evaluation.{Evaluated, evaluated, EvaluatedAll, evaluated_all}
 use Rattle.pi_core.specs.GoalTree.{GoalTree, truth, fail, tick, call, apply, seq, alternatives, if_else, not, once, collect, count, catch, GoalTrees, no_goals, goal, subgoals, subgoals_all}
-use Rattle.pi_meaning.specs.Traces.Trace.{one, alt, then, first}
-use Rattle.pi_meaning.specs.Traces.Control.{negated, chosen}
+use Rattle.pi_traces.specs.Trace.{one, alt, then, first}
+use Rattle.pi_traces.specs.Control.{negated, chosen}
 use Rattle.pi_meaning.specs.Shared.Names.{is_resource}
 use Rattle.pi_meaning.specs.Shared.Level.{Level, Point, or_called, or_applied}
 use Rattle.pi_meaning.specs.CoreMeaning.Builtins.{Builtins}

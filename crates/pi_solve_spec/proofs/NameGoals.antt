@@ -10,8 +10,8 @@ use Rattle.pi_syntax.specs.PrintTerm.{array_name}
 use Rattle.pi_effects.specs.Indexing.{index_name}
 use Rattle.pi_syntax.specs.ExpTree.{ExpTree, var, int, atom, str, list, list_onto, array, call, quote, index, range, range_by, at, collect, and, or, arrow, if_then, if_else, foreach, while_do, do_while, ExpTrees, no_exps, exp, ExpBranches, no_branches, branch}
 use Rattle.pi_syntax.specs.Signature.{exp_count}
-use Rattle.pi_meaning.specs.Traces.Trace.{Trace, end, Done, done, one, alt, then}
-use Rattle.pi_meaning.proofs.Traces.TraceLemmas.{alt-done, then-assoc}
+use Rattle.pi_traces.specs.Trace.{Trace, end, Done, done, one, alt, then}
+use Rattle.pi_traces.proofs.TraceLemmas.{alt-done, then-assoc}
 use Rattle.pi_meaning.specs.Shared.Level.{Level, Applied}
 use Rattle.pi_meaning.specs.OverNames.Environment.{Valued, ValuedAll}
 use Rattle.pi_meaning.specs.OverNames.Place.{Place}

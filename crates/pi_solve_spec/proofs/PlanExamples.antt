@@ -3,7 +3,7 @@ use Rattle.std.specs.Prelude.{◌≡◌, ℕ, pos, negsuc, Bool, true, false, co
 use Rattle.std.specs.List.{list_any}
 use Rattle.std.proofs.Common.{ap}
 use Rattle.pi_terms.specs.Tree.{Tree, int, comp, no_trees, tree, cells, most_cells}
-use Rattle.pi_meaning.specs.Traces.Trace.{Call, end, Raise, Abort, Miss}
+use Rattle.pi_traces.specs.Trace.{Call, end, Raise, Abort, Miss}
 use Rattle.pi_constraints.specs.Value.{value}
 use Rattle.pi_constraints.specs.State.{State, bindings}
 use Rattle.pi_core.specs.declared.log.LogEntry.{LogEntry}

@@ -27,8 +27,8 @@ use Rattle.pi_effects.specs.Naming.{naming_functions}
 use Rattle.pi_effects.specs.Texts.{text_functions, writing_predicates}
 use Rattle.pi_effects.specs.Making.{making_functions}
 use Rattle.pi_effects.specs.BuiltIns.{reading_functions, built_in_function, tests, other_predicates, built_in_predicate, is_predicate}
-use Rattle.pi_meaning.specs.Traces.Trace.{Trace, end, note, Raise, Tick, Deep, one, done, then, alt}
-use Rattle.pi_meaning.specs.Traces.Control.{chosen}
+use Rattle.pi_traces.specs.Trace.{Trace, end, note, Raise, Tick, Deep, one, done, then, alt}
+use Rattle.pi_traces.specs.Control.{chosen}
 use Rattle.pi_meaning.specs.Shared.Settle.{settled}
 use Rattle.pi_meaning.specs.Shared.Drain.{drained}
 use Rattle.pi_meaning.specs.Shared.View.{query_view, body_view}

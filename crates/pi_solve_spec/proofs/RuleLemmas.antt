@@ -9,8 +9,8 @@ use Rattle.pi_core.specs.GoalTree.{GoalTree, truth}
 use Rattle.pi_core.specs.CoreTree.{ClauseTree, PredTree, QueryTree, backtracks, is_pred, find_pred}
 use Rattle.pi_core.specs.declared.core_program.SlotWatch.{SlotWatch}
 use Rattle.pi_syntax.specs.declared.program.Mode.{Mode}
-use Rattle.pi_meaning.specs.Traces.Trace.{Trace, one, then}
-use Rattle.pi_meaning.specs.Traces.Control.{chosen}
+use Rattle.pi_traces.specs.Trace.{Trace, one, then}
+use Rattle.pi_traces.specs.Control.{chosen}
 use Rattle.pi_meaning.specs.Shared.Raise.{raised_with}
 use Rattle.pi_meaning.specs.Shared.Drain.{drained}
 use Rattle.pi_meaning.specs.Shared.Level.{Level, level_of, Applied, Point}

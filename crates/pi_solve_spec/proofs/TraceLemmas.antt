@@ -1,9 +1,9 @@
 -- Traces under longer logs and at greater depths.
 use Rattle.std.specs.Prelude.{◌≡◌, ◌≢◌, ℕ, zero, suc, ◌+◌, List, [], ◌∷◌, Contains, refl}
 use Rattle.std.proofs.Common.{arith, sym, ap, subst}
-use Rattle.pi_meaning.specs.Traces.Trace.{Trace, note, ans, Done, end_of, answers, WithoutDeep}
-use Rattle.pi_meaning.specs.Traces.Depth.{Below, deeper, same_end, same_note, same_answer, DepthOnlyAdds}
-use Rattle.pi_meaning.proofs.Traces.BelowLemmas.{below-later, depth-enough}
+use Rattle.pi_traces.specs.Trace.{Trace, note, ans, Done, end_of, answers, WithoutDeep}
+use Rattle.pi_traces.specs.Depth.{Below, deeper, same_end, same_note, same_answer, DepthOnlyAdds}
+use Rattle.pi_traces.proofs.BelowLemmas.{below-later, depth-enough}
 use Rattle.pi_solve_spec.specs.Bodies.{Gives, HasAnswer}
 use Rattle.pi_solve_spec.specs.Known.{MoreKnown, known_now, known_end, known_note, known_answer}
 

@@ -2,7 +2,7 @@
 use Rattle.std.specs.Prelude.{ℕ, ℤ, pos, negsuc, Bool, List, [], ◌∷◌, Option, Some, None, option_map, codes}
 use Rattle.pi_terms.specs.Tree.{Tree, var, int, atom, comp, Trees, no_trees, tree}
 use Rattle.pi_terms.specs.Variables.{variables}
-use Rattle.pi_meaning.specs.Traces.Trace.{Trace, Call}
+use Rattle.pi_traces.specs.Trace.{Trace, Call}
 use Rattle.pi_constraints.specs.Value.{Bindings, value}
 use Rattle.pi_constraints.specs.State.{State, bindings, followed}
 use Rattle.pi_meaning.specs.Shared.View.{View, Wanted, reading}

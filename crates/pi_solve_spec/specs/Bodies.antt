@@ -3,7 +3,7 @@
 use Rattle.std.specs.Prelude.{◌≡◌, ◌≢◌, ℕ, List, [], ◌∷◌, Option, Some, None, pos, negsuc, Contains}
 use Rattle.pi_terms.specs.Tree.{Tree, var, int, atom, comp}
 use Rattle.pi_terms.specs.Variables.{variables}
-use Rattle.pi_meaning.specs.Traces.Trace.{Trace, End, answers, end_of}
+use Rattle.pi_traces.specs.Trace.{Trace, End, answers, end_of}
 use Rattle.pi_constraints.specs.State.{State}
 use Rattle.pi_meaning.specs.Shared.View.{View}
 

@@ -1,8 +1,8 @@
 -- Planner calls that lead to each other, and the work of a query that makes them. (Own.)
 use Rattle.std.specs.Prelude.{◌≡◌, ◌⊎◌, ℕ, ◌+◌, ◌≤◌, List, [], ◌∷◌, ◌++◌, length}
 use Rattle.pi_terms.specs.Tree.{Tree}
-use Rattle.pi_meaning.specs.Traces.Trace.{Trace, Call, Done, Miss, Load, Emitted, noted, answered, events_of, ticks}
-use Rattle.pi_meaning.specs.Traces.Depth.{cut, Ended}
+use Rattle.pi_traces.specs.Trace.{Trace, Call, Done, Miss, Load, Emitted, noted, answered, events_of, ticks}
+use Rattle.pi_traces.specs.Depth.{cut, Ended}
 use Rattle.pi_core.specs.declared.log.LogEntry.{LogEntry}
 use Rattle.pi_meaning.specs.Shared.View.{body_view}
 use Rattle.pi_solve_spec.specs.Bodies.{Bodies, EndsIn, FailsIn}

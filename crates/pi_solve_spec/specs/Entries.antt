@@ -3,7 +3,7 @@
 use Rattle.std.specs.Prelude.{◌≡◌, ◌⊎◌, ℕ, ◌<◌, ◌≤◌, ℤ, pos, Bool, true, false, List, ◌++◌, take, slice_get, Some, codes, All}
 use Rattle.pi_terms.specs.Tree.{Tree}
 use Rattle.pi_terms.specs.Variables.{IsGround}
-use Rattle.pi_meaning.specs.Traces.Trace.{Call, Done, Raise, Abort, answers}
+use Rattle.pi_traces.specs.Trace.{Call, Done, Raise, Abort, answers}
 use Rattle.pi_constraints.specs.State.{empty_state}
 use Rattle.pi_effects.specs.Exception.{exception_with}
 use Rattle.pi_effects.specs.Items.{list_of}

@@ -2,8 +2,8 @@
 -- which are a parameter here, is that, that more depth only adds, and where a program isn't by rests that the rest counts for nothing. (Own.)
 use Rattle.std.specs.Prelude.{◌≡◌, ℕ, List, [], ◌++◌}
 use Rattle.pi_terms.specs.Tree.{Tree}
-use Rattle.pi_meaning.specs.Traces.Trace.{Trace, end, note, ans, Call, End, Miss, Note}
-use Rattle.pi_meaning.specs.Traces.Depth.{DepthOnlyAdds}
+use Rattle.pi_traces.specs.Trace.{Trace, end, note, ans, Call, End, Miss, Note}
+use Rattle.pi_traces.specs.Depth.{DepthOnlyAdds}
 use Rattle.pi_core.specs.declared.log.LogEntry.{LogEntry}
 use Rattle.pi_meaning.specs.Shared.View.{View, body_view}
 use Rattle.pi_solve_spec.specs.Bodies.{Bodies}

@@ -2,7 +2,7 @@
 use Rattle.std.specs.Prelude.{◌≡◌, ℕ, List}
 use Rattle.pi_syntax.specs.ExpTree.{ExpTree}
 use Rattle.pi_syntax.specs.ProgramTree.{ProgramTree}
-use Rattle.pi_meaning.specs.Traces.Trace.{Call}
+use Rattle.pi_traces.specs.Trace.{Call}
 use Rattle.pi_core.specs.declared.log.LogEntry.{LogEntry}
 use Rattle.pi_meaning.specs.Shared.View.{body_view}
 use Rattle.pi_meaning.specs.OverNames.Stages.{LaterStages}

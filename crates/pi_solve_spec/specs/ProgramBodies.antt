@@ -5,7 +5,7 @@ use Rattle.pi_terms.specs.Tree.{Tree, var}
 use Rattle.pi_constraints.specs.State.{empty_state}
 use Rattle.pi_core.specs.GoalTree.{GoalTree, call}
 use Rattle.pi_core.specs.CoreTree.{PredTree}
-use Rattle.pi_meaning.specs.Traces.Trace.{Trace, one, then}
+use Rattle.pi_traces.specs.Trace.{Trace, one, then}
 use Rattle.pi_meaning.specs.Shared.Raise.{within_limit}
 use Rattle.pi_meaning.specs.Shared.Level.{Level, Point}
 use Rattle.pi_meaning.specs.Shared.Given.{Later}

@@ -4,7 +4,7 @@ use Rattle.pi_terms.specs.Tree.{Tree, Trees}
 use Rattle.pi_constraints.specs.State.{State}
 use Rattle.pi_core.specs.GoalTree.{GoalTree}
 use Rattle.pi_core.specs.CoreTree.{PredTree, QueryTree}
-use Rattle.pi_meaning.specs.Traces.Trace.{Call}
+use Rattle.pi_traces.specs.Trace.{Call}
 use Rattle.pi_core.specs.declared.log.LogEntry.{LogEntry}
 use Rattle.pi_core.specs.declared.log.PlanResult.{PlanResult}
 use Rattle.pi_meaning.specs.Shared.View.{body_view}

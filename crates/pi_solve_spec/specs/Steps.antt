@@ -3,7 +3,7 @@
 use Rattle.std.specs.Prelude.{◌≡◌, ℕ, ◌+◌, ◌≤◌, ℤ, pos, negsuc, Bool, true, false, List, [], ◌∷◌, None}
 use Rattle.pi_terms.specs.Tree.{Tree, int}
 use Rattle.pi_terms.specs.Variables.{IsGround}
-use Rattle.pi_meaning.specs.Traces.Trace.{Call, Done, answers, end_of}
+use Rattle.pi_traces.specs.Trace.{Call, Done, answers, end_of}
 use Rattle.pi_core.specs.declared.log.LogEntry.{LogEntry}
 use Rattle.pi_meaning.specs.Shared.View.{body_view}
 use Rattle.pi_solve_spec.specs.Bodies.{Bodies, Gives, HasAnswer, FailsIn, first_fault}

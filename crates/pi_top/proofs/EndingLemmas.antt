@@ -1,8 +1,8 @@
 -- A query ends in one way.
 use Rattle.std.proofs.Common.{◌≡◌, ℕ, List, refl, sym, ◌∙◌, ap, arith}
 use Rattle.pi_terms.specs.Tree.{Tree}
-use Rattle.pi_meaning.specs.Traces.Trace.{Done, Raise, Emitted}
-use Rattle.pi_meaning.specs.Traces.Depth.{Cut, Stop, Ended, Spent}
+use Rattle.pi_traces.specs.Trace.{Done, Raise, Emitted}
+use Rattle.pi_traces.specs.Depth.{Cut, Stop, Ended, Spent}
 use Rattle.pi_top.specs.QueryEnd.{Stopped, NoMore, No, Exception, StepsSpent, EndsWithLast, IsWhole, EndingIsOne}
 
 last-or-whole : {X A : Type 0} (asked : ℕ) (part : List (Emitted A)) (run : Cut A) (stop : Stop) → EndsWithLast asked part → IsWhole asked part run stop → X

@@ -1,7 +1,7 @@
 -- What events print, and how many Ticks and answers they have, where more stand behind them.
 use Rattle.std.proofs.Common.{◌≡◌, ℕ, zero, suc, ◌+◌, List, [], ◌∷◌, ◌++◌, refl, sym, ap, ◌∙◌, arith, append_assoc}
 use Rattle.std.proofs.lemmas.List.{append-nil}
-use Rattle.pi_meaning.specs.Traces.Trace.{Tick, Load, Out, Emitted, noted, answered, count_ticks}
+use Rattle.pi_traces.specs.Trace.{Tick, Load, Out, Emitted, noted, answered, count_ticks}
 use Rattle.pi_meaning.specs.CoreMeaning.Run.{Solution}
 use Rattle.pi_print_terms.specs.PrintAnswer.{answer_lines}
 use Rattle.pi_meaning.specs.Shared.Told.{answer_of}

@@ -6,8 +6,8 @@ use Rattle.pi_core.specs.CoreTree.{PredTree, QueryTree}
 use Rattle.pi_core.specs.declared.core_program.NameSlot.{NameSlot}
 use Rattle.pi_syntax.specs.ExpTree.{ExpTree}
 use Rattle.pi_syntax.specs.ProgramTree.{ProgramTree}
-use Rattle.pi_meaning.specs.Traces.Trace.{Done, Raise, Tick, Load, Out, Emitted, noted, answered, count_ticks}
-use Rattle.pi_meaning.specs.Traces.Depth.{Cut, Stop as CutStop, Ended, Spent}
+use Rattle.pi_traces.specs.Trace.{Done, Raise, Tick, Load, Out, Emitted, noted, answered, count_ticks}
+use Rattle.pi_traces.specs.Depth.{Cut, Stop as CutStop, Ended, Spent}
 use Rattle.pi_meaning.specs.Shared.View.{query_view}
 use Rattle.pi_meaning.specs.CoreMeaning.Run.{Solution}
 use Rattle.pi_meaning.specs.Shared.Told.{answer_of, solution_told}

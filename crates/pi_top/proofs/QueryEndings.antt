@@ -3,8 +3,8 @@ use Rattle.std.specs.Prelude.{IfErr}
 use Rattle.std.proofs.Common.{◌≡◌, ◌<◌, ◌≤◌, ℕ, suc, ◌+◌, Bool, true, false, List, [], ◌∷◌, ◌++◌, Result, Ok, Err, refl, sym, subst, ◌∙◌, arith, append_assoc}
 use Rattle.std.proofs.lemmas.List.{append-nil}
 use Rattle.pi_outside.specs.Writes.{SinkWrite}
-use Rattle.pi_meaning.specs.Traces.Trace.{Done, Raise, Out, Emitted, noted, answered, count_ticks}
-use Rattle.pi_meaning.specs.Traces.Depth.{Stop as CutStop, Cut, Ended, Spent}
+use Rattle.pi_traces.specs.Trace.{Done, Raise, Out, Emitted, noted, answered, count_ticks}
+use Rattle.pi_traces.specs.Depth.{Stop as CutStop, Cut, Ended, Spent}
 use Rattle.pi_meaning.specs.Shared.View.{query_view}
 use Rattle.pi_core.specs.CoreTree.{PredTree, QueryTree}
 use Rattle.pi_meaning.specs.CoreMeaning.Run.{Solution, IsRun}

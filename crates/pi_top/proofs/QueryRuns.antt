@@ -1,8 +1,8 @@
 -- A query's run, call of `next` by call, and what is printed of it; and the list of the queries that were run.
 use Rattle.std.proofs.Common.{◌≡◌, ◌≤◌, ℕ, suc, ◌+◌, ◌-◌, List, [], ◌∷◌, ◌++◌, Result, refl, sym, ap, subst, ◌∙◌, arith, append_assoc, length, length-append, slice_set}
 use Rattle.pi_outside.specs.Writes.{SinkWrite}
-use Rattle.pi_meaning.specs.Traces.Trace.{Emitted, count_ticks}
-use Rattle.pi_meaning.specs.Traces.Depth.{Cut, with_events}
+use Rattle.pi_traces.specs.Trace.{Emitted, count_ticks}
+use Rattle.pi_traces.specs.Depth.{Cut, with_events}
 use Rattle.pi_meaning.specs.Shared.View.{query_view}
 use Rattle.pi_core.specs.CoreTree.{PredTree, QueryTree}
 use Rattle.pi_meaning.specs.CoreMeaning.Run.{Solution, IsRun}

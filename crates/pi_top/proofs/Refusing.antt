@@ -4,8 +4,8 @@ use Rattle.pi_syntax.specs.ExpTree.{ExpTree}
 use Rattle.pi_syntax.specs.ProgramTree.{ProgramTree}
 use Rattle.pi_print_program.specs.Canonical.{canonical_text}
 use Rattle.pi_core.specs.declared.log.LogEntry.{LogEntry}
-use Rattle.pi_meaning.specs.Traces.Trace.{Done, Raise, Emitted, noted, answered, count_ticks}
-use Rattle.pi_meaning.specs.Traces.Depth.{Cut, Stop, Ended, Spent}
+use Rattle.pi_traces.specs.Trace.{Done, Raise, Emitted, noted, answered, count_ticks}
+use Rattle.pi_traces.specs.Depth.{Cut, Stop, Ended, Spent}
 use Rattle.pi_meaning.specs.Shared.View.{query_view}
 use Rattle.pi_meaning.specs.OverNames.Telling.{Told}
 use Rattle.pi_meaning.specs.OverNames.Stages.{no_stages}

@@ -4,7 +4,7 @@ use Rattle.pi_outside.specs.Writes.{SinkWrite}
 use Rattle.pi_core.specs.CoreTree.{PredTree, QueryTree}
 use Rattle.pi_syntax.specs.ExpTree.{ExpTree}
 use Rattle.pi_syntax.specs.ProgramTree.{ProgramTree}
-use Rattle.pi_meaning.specs.Traces.Trace.{count_ticks}
+use Rattle.pi_traces.specs.Trace.{count_ticks}
 use Rattle.pi_meaning.specs.Shared.Told.{solution_told}
 use Rattle.pi_meaning.specs.OverNames.Telling.{told_cut}
 use Rattle.pi_meaning.specs.declared.happening.Budget.{Budget}

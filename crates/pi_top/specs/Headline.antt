@@ -2,8 +2,8 @@
 -- end, where it is written. A run is that of the meaning over names, of the texts that were read.
 use Rattle.std.specs.Prelude.{◌≡◌, ◌<◌, ◌≤◌, ℕ, List, [], ◌∷◌, ◌++◌}
 use Rattle.pi_outside.specs.Writes.{SinkWrite}
-use Rattle.pi_meaning.specs.Traces.Trace.{Out, Emitted, noted, answered, count_ticks}
-use Rattle.pi_meaning.specs.Traces.Depth.{Cut}
+use Rattle.pi_traces.specs.Trace.{Out, Emitted, noted, answered, count_ticks}
+use Rattle.pi_traces.specs.Depth.{Cut}
 use Rattle.pi_syntax.specs.ExpTree.{ExpTree}
 use Rattle.pi_syntax.specs.ProgramTree.{ProgramTree}
 use Rattle.pi_meaning.specs.Shared.View.{query_view}

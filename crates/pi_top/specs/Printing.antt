@@ -1,6 +1,6 @@
 -- What a part of a goal's run prints.
 use Rattle.std.specs.Prelude.{ℕ, List, [], ◌∷◌, ◌++◌}
-use Rattle.pi_meaning.specs.Traces.Trace.{Tick, Load, Out, Emitted, noted, answered}
+use Rattle.pi_traces.specs.Trace.{Tick, Load, Out, Emitted, noted, answered}
 use Rattle.pi_meaning.specs.OverNames.Telling.{Told, told_answer}
 use Rattle.pi_print_terms.specs.PrintAnswer.{answer_lines}
 use Rattle.pi_top.specs.declared.manner.Lines.{Lines}

@@ -2,8 +2,8 @@
 use Rattle.std.specs.Prelude.{◌≡◌, ◌<◌, ℕ, suc, List, [], ◌∷◌, ◌++◌, true, ◌≢◌}
 use lib.Chars.{codes}
 use Rattle.pi_terms.specs.Tree.{Tree}
-use Rattle.pi_meaning.specs.Traces.Trace.{Done, Raise, Emitted, noted, answered}
-use Rattle.pi_meaning.specs.Traces.Depth.{Cut, Stop, Ended, Spent}
+use Rattle.pi_traces.specs.Trace.{Done, Raise, Emitted, noted, answered}
+use Rattle.pi_traces.specs.Depth.{Cut, Stop, Ended, Spent}
 use Rattle.pi_meaning.specs.OverNames.Telling.{Told}
 use Rattle.pi_syntax.specs.PrintTerm.{text_of}
 

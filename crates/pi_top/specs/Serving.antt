@@ -4,8 +4,8 @@ use lib.Chars.{codes}
 use Rattle.pi_outside.specs.Writes.{SinkWrite}
 use Rattle.pi_syntax.specs.ExpTree.{ExpTree}
 use Rattle.pi_syntax.specs.ProgramTree.{ProgramTree}
-use Rattle.pi_meaning.specs.Traces.Trace.{Emitted, count_ticks}
-use Rattle.pi_meaning.specs.Traces.Depth.{Cut}
+use Rattle.pi_traces.specs.Trace.{Emitted, count_ticks}
+use Rattle.pi_traces.specs.Depth.{Cut}
 use Rattle.pi_meaning.specs.OverNames.Telling.{Told}
 use Rattle.pi_core.specs.declared.log.LogEntry.{LogEntry}
 use Rattle.pi_outside.specs.Requests.{Asked, nothing, another, too_long, a_goal}

@@ -1,8 +1,8 @@
 -- What one request of a query comes to: its next answer, or its end. Here it is a query of the core language, whose run is that of the goal over its names.
 use Rattle.std.specs.Prelude.{◌≡◌, ◌<◌, ◌+◌, ℕ, List, ◌++◌, Option, None, Some, Result, Ok, Err}
 use Rattle.pi_outside.specs.Writes.{SinkWrite}
-use Rattle.pi_meaning.specs.Traces.Trace.{Emitted, count_ticks}
-use Rattle.pi_meaning.specs.Traces.Depth.{Cut}
+use Rattle.pi_traces.specs.Trace.{Emitted, count_ticks}
+use Rattle.pi_traces.specs.Depth.{Cut}
 use Rattle.pi_meaning.specs.CoreMeaning.Run.{Solution}
 use Rattle.pi_meaning.specs.declared.happening.Budget.{Budget}
 use Rattle.pi_engine.specs.Seen.{MachineView}

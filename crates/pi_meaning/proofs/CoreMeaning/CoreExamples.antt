@@ -11,9 +11,9 @@ use Rattle.pi_constraints.specs.State.{State, Variable, free, bound, on_ins, emp
 use Rattle.pi_constraints.specs.Unify.{in_pairs, assigned, joined, outcome, unified_for, unbound_in, cells_of_pairs, most_pairs, all_unified}
 use Rattle.pi_terms.specs.PatternTree.{PatternTree, slot, exact_int, exact_atom, compound, named, no_patterns, pattern}
 use Rattle.pi_core.specs.GoalTree.{GoalTree, truth, fail, tick, call, apply, seq, alternatives, if_else, not, once, collect, count, catch, no_goals, goal}
-use Rattle.pi_meaning.specs.Traces.Trace.{Trace, end, note, ans, Done, Raise, Deep, Tick, noted, answered, alt, then, first}
-use Rattle.pi_meaning.specs.Traces.Depth.{Spent, Ended, cut}
-use Rattle.pi_meaning.specs.Traces.Control.{negated, chosen, collected, counted, caught}
+use Rattle.pi_traces.specs.Trace.{Trace, end, note, ans, Done, Raise, Deep, Tick, noted, answered, alt, then, first}
+use Rattle.pi_traces.specs.Depth.{Spent, Ended, cut}
+use Rattle.pi_traces.specs.Control.{negated, chosen, collected, counted, caught}
 use Rattle.pi_meaning.specs.Shared.Settle.{settled}
 use Rattle.pi_meaning.specs.Shared.Drain.{drained}
 use Rattle.pi_constraints.specs.Evaluation.{evaluated, evaluated_all, with_new_variables}

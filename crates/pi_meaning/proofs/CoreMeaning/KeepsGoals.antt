@@ -8,8 +8,8 @@ use Rattle.pi_terms.specs.Copy.{copy, new_variables}
 use Rattle.pi_constraints.specs.State.{State, next, SpeaksBelow, PlacesBelow, IsState}
 use Rattle.pi_constraints.specs.Unify.{unified}
 use Rattle.pi_core.specs.GoalTree.{GoalTree, truth, fail, tick, call, apply, seq, alternatives, if_else, not, once, collect, count, catch, GoalTrees, no_goals, goal}
-use Rattle.pi_meaning.specs.Traces.Trace.{Trace, one, alt, then, first}
-use Rattle.pi_meaning.specs.Traces.Control.{negated, chosen, caught}
+use Rattle.pi_traces.specs.Trace.{Trace, one, alt, then, first}
+use Rattle.pi_traces.specs.Control.{negated, chosen, caught}
 use Rattle.pi_meaning.specs.Shared.View.{View}
 use Rattle.pi_meaning.specs.CoreMeaning.Instances.{tabled}
 use Rattle.pi_meaning.specs.Shared.Settle.{settled}
@@ -30,7 +30,7 @@ use Rattle.pi_meaning.specs.Shared.Handling.{handled_in, handling}
 use Rattle.pi_meaning.specs.CoreMeaning.Builtins.{predicate_by, function_by}
 use Rattle.pi_meaning.specs.CoreMeaning.Meaning.{Action, in_state, with_slot, draining, strictly, succeeding, failing, ticking, calling, applying, after_arguments, after_term, slot_value, copyable, with_list, collecting, counting, catching, meaning, meaning_of_all, meaning_of_any}
 use Rattle.pi_terms.specs.ListCopies.{list_of_copies, new_in_all}
-use Rattle.pi_meaning.proofs.Traces.AnswerLemmas.{EachAnswer, each-map, each-one, each-alt, each-then, each-first, each-negated, each-chosen, each-collected, each-counted, each-caught}
+use Rattle.pi_traces.proofs.AnswerLemmas.{EachAnswer, each-map, each-one, each-alt, each-then, each-first, each-negated, each-chosen, each-collected, each-counted, each-caught}
 use Rattle.pi_constraints.proofs.KeepsLemmas.{TreesBelow, speaks-more, places-more, first-below, rest-below, int-below, places-set, Later, later-itself, later-further, news-next, news-later, EvaluatedBelow, AllBelow, evaluated-below, evaluated-all-below, unified-later, copy-below, copies-below}
 
 -- a state after a function call, and its value

@@ -9,7 +9,7 @@ use Rattle.pi_constraints.specs.State.{State, WatchTree, Agent, bindings, next, 
 use Rattle.pi_constraints.specs.Unify.{unified}
 use Rattle.pi_terms.specs.PatternTree.{PatternTree, slot, exact_int, exact_atom, compound, named, PatternTrees, no_patterns, pattern}
 use Rattle.pi_core.specs.GoalTree.{GoalTree, truth}
-use Rattle.pi_meaning.specs.Traces.Trace.{Trace, end, one, done}
+use Rattle.pi_traces.specs.Trace.{Trace, end, one, done}
 use Rattle.pi_meaning.specs.Shared.View.{View}
 use Rattle.pi_meaning.specs.CoreMeaning.Instances.{tabled}
 use Rattle.pi_meaning.specs.Shared.Settle.{settled_from}
@@ -28,7 +28,7 @@ use Rattle.pi_core.specs.declared.core_program.SlotWatch.{SlotWatch}
 use Rattle.pi_core.specs.declared.core_program.NameSlot.{NameSlot}
 use Rattle.pi_syntax.specs.declared.program.Mode.{Mode}
 use Rattle.pi_constraints.proofs.StateLemmas.{bound_below}
-use Rattle.pi_meaning.proofs.Traces.AnswerLemmas.{EachAnswer, each-contained, each-one, each-alt, each-then, each-chosen}
+use Rattle.pi_traces.proofs.AnswerLemmas.{EachAnswer, each-contained, each-one, each-alt, each-then, each-chosen}
 use Rattle.pi_meaning.proofs.CoreMeaning.KeepsGoals.{AppliedLater, CallsKeep, LevelKeeps, IsPlace, PlaceLater, Keeps, strictly-keeps, settled-later, goal-keeps}
 
 -- ---- facts

@@ -8,18 +8,18 @@ use Rattle.pi_constraints.specs.State.{State, next}
 use Rattle.pi_terms.specs.Copy.{copy, new_variables}
 use Rattle.pi_constraints.specs.Unify.{unified}
 use Rattle.pi_core.specs.GoalTree.{GoalTree, truth, fail, tick, call, apply, seq, alternatives, if_else, not, once, collect, count, catch, GoalTrees, no_goals, goal}
-use Rattle.pi_meaning.specs.Traces.Trace.{Done, Raise, Tick, one, then, first}
-use Rattle.pi_meaning.specs.Traces.Control.{negated, chosen}
-use Rattle.pi_meaning.specs.Traces.Depth.{Below}
-use Rattle.pi_meaning.specs.Traces.Related.{BelowBy, deeper_by, end_by, note_by}
+use Rattle.pi_traces.specs.Trace.{Done, Raise, Tick, one, then, first}
+use Rattle.pi_traces.specs.Control.{negated, chosen}
+use Rattle.pi_traces.specs.Depth.{Below}
+use Rattle.pi_traces.specs.Related.{BelowBy, deeper_by, end_by, note_by}
 use Rattle.pi_meaning.specs.CoreMeaning.Builtins.{Builtins, predicate_by, function_by, BuiltinsOnlyAdd}
 use Rattle.pi_meaning.specs.Shared.Handling.{handled_in, handling}
 use Rattle.pi_meaning.specs.Shared.Settle.{settled}
 use Rattle.pi_constraints.specs.Evaluation.{Evaluated, evaluated, EvaluatedAll, evaluated_all, with_new_variables}
 use Rattle.pi_meaning.specs.Shared.Level.{Level, lowest, over, Point, CallsBelow, LevelBelow, PointBelow, same_but_level, calls_at}
 use Rattle.pi_meaning.specs.CoreMeaning.Meaning.{Action, with_slot, draining, strictly, succeeding, failing, ticking, calling, applying, slot_value, copyable, with_list, collecting, counting, catching, meaning, meaning_of_all, meaning_of_any}
-use Rattle.pi_meaning.proofs.Traces.BelowLemmas.{below-refl}
-use Rattle.pi_meaning.proofs.Traces.RelatedLemmas.{Same, by-same, by-one, by-alt, by-then, by-then_same, by-first, by-negated, by-chosen, by-collected, by-counted, by-caught}
+use Rattle.pi_traces.proofs.BelowLemmas.{below-refl}
+use Rattle.pi_traces.proofs.RelatedLemmas.{Same, by-same, by-one, by-alt, by-then, by-then_same, by-first, by-negated, by-chosen, by-collected, by-counted, by-caught}
 
 -- the place at a level
 abbrev pub place : Level → Places → State → Point

@@ -1,8 +1,8 @@
 -- Lemmas on queries: each depth adds to a query's trace at the one before, and so its run is one.
 use Rattle.std.proofs.Common.{◌≡◌, ℕ, suc, ◌+◌, List, ◌++◌, refl, sym, ◌∙◌}
-use Rattle.pi_meaning.specs.Traces.Trace.{then, WithoutDeep}
-use Rattle.pi_meaning.specs.Traces.Depth.{Below, DepthOnlyAdds, Cut, cut}
-use Rattle.pi_meaning.specs.Traces.Related.{BelowBy}
+use Rattle.pi_traces.specs.Trace.{then, WithoutDeep}
+use Rattle.pi_traces.specs.Depth.{Below, DepthOnlyAdds, Cut, cut}
+use Rattle.pi_traces.specs.Related.{BelowBy}
 use Rattle.pi_core.specs.CoreTree.{PredTree, QueryTree}
 use Rattle.pi_core.specs.declared.core_program.NameSlot.{NameSlot}
 use Rattle.pi_meaning.specs.CoreMeaning.Builtins.{Builtins, BuiltinsOnlyAdd}
@@ -10,9 +10,9 @@ use Rattle.pi_meaning.specs.Shared.Level.{Level, Point, LevelBelow, PointBelow, 
 use Rattle.pi_meaning.specs.CoreMeaning.Meaning.{meaning, strictly}
 use Rattle.pi_meaning.specs.CoreMeaning.Rules.{level_at}
 use Rattle.pi_meaning.specs.CoreMeaning.Run.{Solution, answered_with, query_start, query_trace, IsRunUnder}
-use Rattle.pi_meaning.proofs.Traces.RelatedLemmas.{Same, below-by, by-same, by-then}
-use Rattle.pi_meaning.proofs.Traces.BelowLemmas.{below-later, depth-enough}
-use Rattle.pi_meaning.proofs.Traces.CutLemmas.{cut-below, depths-agree}
+use Rattle.pi_traces.proofs.RelatedLemmas.{Same, below-by, by-same, by-then}
+use Rattle.pi_traces.proofs.BelowLemmas.{below-later, depth-enough}
+use Rattle.pi_traces.proofs.CutLemmas.{cut-below, depths-agree}
 use Rattle.pi_meaning.proofs.CoreMeaning.MeaningLemmas.{place, Callable, CallsMore, CallsIn, more-strictly, anything, calls-any, only-more}
 use Rattle.pi_meaning.proofs.CoreMeaning.RuleLemmas.{level-below}
 

@@ -11,7 +11,7 @@ use Rattle.pi_core.specs.CoreTree.{PredTree, find_pred}
 use Rattle.pi_effects.specs.Items.{each_tree}
 use Rattle.pi_effects.specs.BuiltIns.{built_in_predicate, built_in_function, is_predicate}
 use Rattle.pi_effects.specs.Exception.{type_error}
-use Rattle.pi_meaning.specs.Traces.Trace.{Trace, end, note, ans, Tick, Load, Out, done, then}
+use Rattle.pi_traces.specs.Trace.{Trace, end, note, ans, Tick, Load, Out, done, then}
 use Rattle.pi_meaning.specs.Shared.View.{View}
 use Rattle.pi_meaning.specs.Shared.Within.{Within, a_query, a_body, resource_left}
 use Rattle.pi_meaning.specs.Shared.Level.{Level, lowest, over, calls_at, or_called}
@@ -23,7 +23,7 @@ use Rattle.pi_meaning.specs.Shared.Given.{Setting}
 use Rattle.pi_meaning.specs.Shared.Calls.{built_in, given_later, predicate_given, predicate_called, function_later, function_given, Called, called_by, unknown_name, with_planner, is_known, known_called, call_goal, catch_called, again_called, term_called, called_at_level, first_called}
 use Rattle.pi_meaning.specs.CoreMeaning.Instances.{is_called_by_name, core_setting, no_later, whole}
 use Rattle.pi_meaning.specs.CoreMeaning.Quiet.{TicksBetween}
-use Rattle.pi_meaning.proofs.Traces.LastLemmas.{Lasts, Any, any-falls, less-left, done-lasts, raise-lasts, one-lasts, then-lasts, caught-lasts}
+use Rattle.pi_traces.proofs.LastLemmas.{Lasts, Any, any-falls, less-left, done-lasts, raise-lasts, one-lasts, then-lasts, caught-lasts}
 use Rattle.pi_meaning.proofs.Shared.KnownLemmas.{given-known, planner-later}
 use Rattle.pi_meaning.proofs.CoreMeaning.QuietGoals.{worth, counted, worth-counted, LevelLasts, calls-last, OptionLasts, option-lasts, settled-lasts, settled-effect-lasts, gave-lasts, BuiltinsLast}
 

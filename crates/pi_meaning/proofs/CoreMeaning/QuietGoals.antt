@@ -7,8 +7,8 @@ use Rattle.pi_terms.specs.Copy.{copy, new_variables}
 use Rattle.pi_constraints.specs.State.{State, next}
 use Rattle.pi_constraints.specs.Unify.{unified}
 use Rattle.pi_core.specs.GoalTree.{GoalTree, truth, fail, tick, call, apply, seq, alternatives, if_else, not, once, collect, count, catch, GoalTrees, no_goals, goal}
-use Rattle.pi_meaning.specs.Traces.Trace.{Trace, end, one, alt, then, first}
-use Rattle.pi_meaning.specs.Traces.Control.{negated, chosen}
+use Rattle.pi_traces.specs.Trace.{Trace, end, one, alt, then, first}
+use Rattle.pi_traces.specs.Control.{negated, chosen}
 use Rattle.pi_meaning.specs.Shared.View.{View}
 use Rattle.pi_meaning.specs.CoreMeaning.Instances.{is_called_by_name}
 use Rattle.pi_meaning.specs.Shared.Settle.{settled}
@@ -24,7 +24,7 @@ use Rattle.pi_core.specs.CoreTree.{PredTree, find_pred}
 use Rattle.pi_meaning.specs.CoreMeaning.Meaning.{Action, in_state, with_slot, draining, strictly, succeeding, failing, ticking, calling, applying, after_arguments, after_term, slot_value, copyable, with_list, collecting, counting, catching, meaning, meaning_of_all, meaning_of_any}
 use Rattle.pi_meaning.specs.CoreMeaning.Quiet.{Callee, Passes, PassesAll, PassesAny, Reaches, ReachesInAll, ReachesInAny, IsQuiet, TicksBetween}
 use Rattle.pi_meaning.proofs.CoreMeaning.MeaningLemmas.{as-many, count-of}
-use Rattle.pi_meaning.proofs.Traces.LastLemmas.{Lasts, Falls, Any, any-falls, less-left, lasts-map, done-lasts, raise-lasts, one-lasts, alt-lasts, then-lasts, first-lasts, negated-lasts, chosen-lasts, collected-lasts, counted-lasts, caught-lasts}
+use Rattle.pi_traces.proofs.LastLemmas.{Lasts, Falls, Any, any-falls, less-left, lasts-map, done-lasts, raise-lasts, one-lasts, alt-lasts, then-lasts, first-lasts, negated-lasts, chosen-lasts, collected-lasts, counted-lasts, caught-lasts}
 
 -- How many Ticks last at a level: what goals do there lasts as many as it is worth, and what a counted call does as many as it counts. `call` takes one from the depth without a Tick, and what
 -- it calls counts one: so goals last a Tick for each two.

@@ -7,8 +7,8 @@ use Rattle.pi_terms.specs.Tree.{Tree, comp, Trees, tree_count}
 use Rattle.pi_core.specs.GoalTree.{GoalTree, truth}
 use Rattle.pi_terms.specs.Places.{Places}
 use Rattle.pi_constraints.specs.State.{State, bindings}
-use Rattle.pi_meaning.specs.Traces.Trace.{Trace, one, done, then}
-use Rattle.pi_meaning.specs.Traces.Depth.{Cut, cut, CutWithoutDeep}
+use Rattle.pi_traces.specs.Trace.{Trace, one, done, then}
+use Rattle.pi_traces.specs.Depth.{Cut, cut, CutWithoutDeep}
 use Rattle.pi_meaning.specs.Shared.View.{View}
 use Rattle.pi_meaning.specs.CoreMeaning.Builtins.{Builtins}
 use Rattle.pi_meaning.specs.CoreMeaning.Instances.{is_called_by_name, no_later, whole}
@@ -27,7 +27,7 @@ use Rattle.pi_meaning.specs.CoreMeaning.Run.{Solution, solution, told, answered_
 use Rattle.pi_syntax.specs.declared.program.Mode.{Mode}
 use Rattle.pi_core.specs.declared.core_program.SlotWatch.{SlotWatch}
 use Rattle.pi_core.specs.declared.core_program.NameSlot.{NameSlot}
-use Rattle.pi_meaning.proofs.Traces.LastLemmas.{Lasts, Any, any-falls, less-left, done-lasts, raise-lasts, one-lasts, alt-lasts, then-lasts, chosen-lasts, cut-lasts}
+use Rattle.pi_traces.proofs.LastLemmas.{Lasts, Any, any-falls, less-left, done-lasts, raise-lasts, one-lasts, alt-lasts, then-lasts, chosen-lasts, cut-lasts}
 use Rattle.pi_meaning.proofs.CoreMeaning.QuietGoals.{worth, counted, worth-counted, Fits, callee, CallsLast, LevelLasts, BuiltinsLast, Left, Deepens, onward, strictly-deepens, within-lasts, settled-lasts, goal-deepens}
 use Rattle.pi_meaning.proofs.CoreMeaning.QuietCalls.{whole-lasts}
 

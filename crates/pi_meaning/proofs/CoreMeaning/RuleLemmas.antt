@@ -4,8 +4,8 @@ use Rattle.std.specs.Prelude.{Bool, true, false, Option, Some, None, replicate, 
 use Rattle.pi_terms.specs.Tree.{Tree, comp, Trees, tree_count}
 use Rattle.pi_terms.specs.Places.{Places}
 use Rattle.pi_constraints.specs.State.{State, bindings}
-use Rattle.pi_meaning.specs.Traces.Trace.{Trace, Done, Tick, one}
-use Rattle.pi_meaning.specs.Traces.Related.{BelowBy, deeper_by, end_by, note_by}
+use Rattle.pi_traces.specs.Trace.{Trace, Done, Tick, one}
+use Rattle.pi_traces.specs.Related.{BelowBy, deeper_by, end_by, note_by}
 use Rattle.pi_core.specs.GoalTree.{GoalTree, truth}
 use Rattle.pi_meaning.specs.CoreMeaning.Builtins.{Builtins, BuiltinsOnlyAdd}
 use Rattle.pi_meaning.specs.Shared.Drain.{drained}
@@ -18,8 +18,8 @@ use Rattle.pi_meaning.specs.CoreMeaning.Meaning.{meaning, strictly}
 use Rattle.pi_meaning.specs.CoreMeaning.Rules.{guarded, chosen_rule, rule_before, rules, suspended, body_or_agent, pred_run, value_at, value_run, function_run, entered, call_run, application_run, calls_of, quiet_level, level_at, rule_by, rules_by}
 use Rattle.pi_syntax.specs.declared.program.Mode.{Mode}
 use Rattle.pi_core.specs.declared.core_program.SlotWatch.{SlotWatch}
-use Rattle.pi_meaning.proofs.Traces.RelatedLemmas.{Same, same, below-by, by-same, by-one, by-alt, by-then, by-chosen}
-use Rattle.pi_meaning.proofs.Traces.BelowLemmas.{below-refl}
+use Rattle.pi_traces.proofs.RelatedLemmas.{Same, same, below-by, by-same, by-one, by-alt, by-then, by-chosen}
+use Rattle.pi_traces.proofs.BelowLemmas.{below-refl}
 use Rattle.pi_meaning.proofs.CoreMeaning.MeaningLemmas.{place, Callable, CallsMore, CallsIn, more-below, more-strictly, anything, calls-any, only-more}
 
 -- a rule's condition does the same and maybe more at a higher place

@@ -6,8 +6,8 @@ use Rattle.pi_terms.specs.Tree.{Tree, int, atom, cells, most_cells}
 use Rattle.pi_terms.specs.Places.{Places, held}
 use Rattle.pi_constraints.specs.State.{State}
 use Rattle.pi_core.specs.GoalTree.{GoalTree, no_goals}
-use Rattle.pi_meaning.specs.Traces.Trace.{Trace, end, ans, done, one, alt, then, first}
-use Rattle.pi_meaning.specs.Traces.Control.{negated, chosen, collected, counted, caught}
+use Rattle.pi_traces.specs.Trace.{Trace, end, ans, done, one, alt, then, first}
+use Rattle.pi_traces.specs.Control.{negated, chosen, collected, counted, caught}
 use Rattle.pi_meaning.specs.CoreMeaning.Builtins.{Builtins}
 use Rattle.pi_meaning.specs.Shared.Raise.{too_large}
 use Rattle.pi_meaning.specs.Shared.Level.{Level, Point}

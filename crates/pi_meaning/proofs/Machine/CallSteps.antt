@@ -7,10 +7,10 @@ use Rattle.pi_terms.specs.Places.{Places, held}
 use Rattle.pi_constraints.specs.State.{State, bindings}
 use Rattle.pi_core.specs.GoalTree.{tick, call, apply, GoalTrees, goal}
 use Rattle.pi_core.specs.CoreTree.{ClauseTree, PredTree, find_pred, leaves_others}
-use Rattle.pi_meaning.specs.Traces.Trace.{Trace, end, note, Done, Raise, Tick, done, one, alt, then}
-use Rattle.pi_meaning.specs.Traces.Control.{chosen}
-use Rattle.pi_meaning.specs.Traces.Depth.{Below, same_note}
-use Rattle.pi_meaning.specs.Traces.Related.{BelowBy, end_by}
+use Rattle.pi_traces.specs.Trace.{Trace, end, note, Done, Raise, Tick, done, one, alt, then}
+use Rattle.pi_traces.specs.Control.{chosen}
+use Rattle.pi_traces.specs.Depth.{Below, same_note}
+use Rattle.pi_traces.specs.Related.{BelowBy, end_by}
 use Rattle.pi_meaning.specs.Shared.View.{View}
 use Rattle.pi_meaning.specs.CoreMeaning.Builtins.{Builtins, BuiltinsOnlyAdd, predicate_by}
 use Rattle.pi_meaning.specs.CoreMeaning.Instances.{core_setting, no_later, whole}
@@ -24,12 +24,12 @@ use Rattle.pi_meaning.specs.CoreMeaning.Run.{Solution, answered_with}
 use Rattle.pi_meaning.specs.Shared.Calls.{function_given}
 use Rattle.pi_core.specs.declared.core_program.NameSlot.{NameSlot}
 use Rattle.pi_syntax.specs.declared.program.Mode.{Mode}
-use Rattle.pi_meaning.proofs.Traces.TraceLemmas.{then-assoc, alt-done}
+use Rattle.pi_traces.proofs.TraceLemmas.{then-assoc, alt-done}
 use Rattle.pi_meaning.proofs.Shared.LevelLemmas.{level-itself}
 use Rattle.pi_meaning.proofs.CoreMeaning.RuleLemmas.{level-below, quiet-deeper}
 use Rattle.pi_meaning.proofs.CoreMeaning.MeaningLemmas.{meaning-below, strict-below}
 use Rattle.pi_meaning.proofs.Shared.CallLemmas.{no-later-adds, whole-adds}
-use Rattle.pi_meaning.proofs.Traces.RelatedLemmas.{Same, same, by-same, by-alt, by-then, by-chosen}
+use Rattle.pi_traces.proofs.RelatedLemmas.{Same, same, by-same, by-alt, by-then, by-chosen}
 use Rattle.pi_meaning.specs.Machine.Configuration.{Frame, give, Back, Called, Strict, value_level, Entry, strict, going, failed, config, behind, returning}
 use Rattle.pi_meaning.specs.Machine.Remaining.{point, valued, continued, run_from, body_of, rules_trace, facts_trace, level_trace, around, now_trace, remaining_at}
 use Rattle.pi_meaning.specs.Machine.Step.{back_to, unresolved, try_rules, try_facts, try_clauses, call_step}

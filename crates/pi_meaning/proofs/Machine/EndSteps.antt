@@ -6,8 +6,8 @@ use Rattle.pi_terms.specs.Copy.{copy, new_variables}
 use Rattle.pi_constraints.specs.State.{State, next}
 use Rattle.pi_constraints.specs.Unify.{unified}
 use Rattle.pi_core.specs.GoalTree.{GoalTree}
-use Rattle.pi_meaning.specs.Traces.Trace.{end, Raise, done, one, alt, then, first}
-use Rattle.pi_meaning.specs.Traces.Control.{negated, chosen, collected, counted, caught}
+use Rattle.pi_traces.specs.Trace.{end, Raise, done, one, alt, then, first}
+use Rattle.pi_traces.specs.Control.{negated, chosen, collected, counted, caught}
 use Rattle.pi_meaning.specs.CoreMeaning.Builtins.{Builtins}
 use Rattle.pi_meaning.specs.Shared.Settle.{settled}
 use Rattle.pi_constraints.specs.Evaluation.{with_new_variables}
@@ -17,7 +17,7 @@ use Rattle.pi_meaning.specs.Shared.Level.{Level, Point}
 use Rattle.pi_meaning.specs.CoreMeaning.Meaning.{with_slot, with_list, meaning}
 use Rattle.pi_meaning.specs.Shared.Handling.{handled_in}
 use Rattle.pi_terms.specs.ListCopies.{list_of_copies, new_in_all}
-use Rattle.pi_meaning.proofs.Traces.TraceLemmas.{alt-done}
+use Rattle.pi_traces.proofs.TraceLemmas.{alt-done}
 use Rattle.pi_meaning.specs.Machine.Configuration.{Back, Choice, rules_left, facts_left, branches_left, Strict, once_level, not_level, if_level, guard_level, value_level, list_level, number_level, Entry, choice, strict, catch_level, left, failed, raising, config}
 use Rattle.pi_meaning.specs.Machine.Remaining.{point, continued, start_of, choice_trace, level_trace, catch_trace, around, now_trace}
 use Rattle.pi_meaning.specs.Machine.Step.{unresolved, choice_step, end_step, handler_step, Open, none_open, strict_open, catch_open, beneath, newest_open, below_left}

@@ -4,12 +4,12 @@ use Rattle.std.specs.Prelude.{cond, Option, Some, None, is_some}
 use Rattle.pi_terms.specs.Tree.{Trees}
 use Rattle.pi_constraints.specs.State.{State}
 use Rattle.pi_core.specs.CoreTree.{ClauseTree}
-use Rattle.pi_meaning.specs.Traces.Trace.{Trace, alt, then}
+use Rattle.pi_traces.specs.Trace.{Trace, alt, then}
 use Rattle.pi_meaning.specs.CoreMeaning.Builtins.{Builtins}
 use Rattle.pi_meaning.specs.Shared.Settle.{settled, settled_from}
 use Rattle.pi_meaning.specs.CoreMeaning.Facts.{facts}
 use Rattle.pi_meaning.specs.Shared.Level.{Level, Point}
-use Rattle.pi_meaning.proofs.Traces.TraceLemmas.{alt-done}
+use Rattle.pi_traces.proofs.TraceLemmas.{alt-done}
 use Rattle.pi_meaning.specs.Machine.Configuration.{Back, Entry}
 use Rattle.pi_meaning.specs.Machine.Remaining.{point, continued, facts_trace, choice_trace, around, now_trace}
 use Rattle.pi_meaning.specs.Machine.Step.{with_fact, from_unifying, later_facts, fact_tried, try_facts}

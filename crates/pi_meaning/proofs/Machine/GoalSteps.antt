@@ -7,8 +7,8 @@ use Rattle.pi_terms.specs.Places.{Places}
 use Rattle.pi_constraints.specs.State.{State, bindings}
 use Rattle.pi_core.specs.GoalTree.{GoalTree, truth, GoalTrees, no_goals, goal}
 use Rattle.pi_core.specs.CoreTree.{ClauseTree, PredTree, leaves_others}
-use Rattle.pi_meaning.specs.Traces.Trace.{Trace, note, Out, one, alt, then}
-use Rattle.pi_meaning.specs.Traces.Control.{chosen, counted}
+use Rattle.pi_traces.specs.Trace.{Trace, note, Out, one, alt, then}
+use Rattle.pi_traces.specs.Control.{chosen, counted}
 use Rattle.pi_meaning.specs.Shared.View.{View}
 use Rattle.pi_meaning.specs.CoreMeaning.Builtins.{Builtins}
 use Rattle.pi_meaning.specs.Shared.Settle.{settled}
@@ -20,7 +20,7 @@ use Rattle.pi_meaning.specs.Shared.Within.{is_body}
 use Rattle.pi_meaning.specs.Shared.Builtin.{written, effect_trace, settled_effect, function_trace}
 use Rattle.pi_meaning.specs.CoreMeaning.Meaning.{Action, with_slot, draining, strictly, succeeding, collecting, counting, meaning, meaning_of_any}
 use Rattle.pi_meaning.specs.CoreMeaning.Rules.{guarded, chosen_rule, rule_before, rules, value_at, rule_by}
-use Rattle.pi_meaning.proofs.Traces.TraceLemmas.{then-alt, alt-done}
+use Rattle.pi_traces.proofs.TraceLemmas.{then-alt, alt-done}
 use Rattle.pi_meaning.specs.Machine.Configuration.{Frame, more, return, give, Back, Called, Strict, guard_level, list_level, number_level, Entry, strict, catch_level, Config, config, behind, after_body}
 use Rattle.pi_meaning.specs.Machine.Remaining.{point, valued, continued, run_from, start_of, body_of, rules_trace, choice_trace, level_trace, catch_trace, around, now_trace}
 use Rattle.pi_meaning.specs.Machine.Step.{back_to, inside, branch, later_rules, taken, guarding, tried, try_rules, written_now, done_now, given_now, frame_step, trial}

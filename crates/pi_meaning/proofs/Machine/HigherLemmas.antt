@@ -8,10 +8,10 @@ use Rattle.pi_terms.specs.Copy.{copy, new_variables}
 use Rattle.pi_constraints.specs.Unify.{unified}
 use Rattle.pi_core.specs.GoalTree.{GoalTree, truth, GoalTrees}
 use Rattle.pi_core.specs.CoreTree.{ClauseTree, leaves_others}
-use Rattle.pi_meaning.specs.Traces.Trace.{Trace, Done, Raise, one, done, alt, then, first, Out}
-use Rattle.pi_meaning.specs.Traces.Control.{negated, chosen, collected, counted, caught}
-use Rattle.pi_meaning.specs.Traces.Depth.{Below}
-use Rattle.pi_meaning.specs.Traces.Related.{BelowBy, end_by, note_by}
+use Rattle.pi_traces.specs.Trace.{Trace, Done, Raise, one, done, alt, then, first, Out}
+use Rattle.pi_traces.specs.Control.{negated, chosen, collected, counted, caught}
+use Rattle.pi_traces.specs.Depth.{Below}
+use Rattle.pi_traces.specs.Related.{BelowBy, end_by, note_by}
 use Rattle.pi_meaning.specs.CoreMeaning.Builtins.{Builtins, BuiltinsOnlyAdd}
 use Rattle.pi_meaning.specs.Shared.Settle.{settled}
 use Rattle.pi_constraints.specs.Evaluation.{Evaluated, evaluated, with_new_variables}
@@ -24,8 +24,8 @@ use Rattle.pi_meaning.specs.CoreMeaning.Facts.{facts}
 use Rattle.pi_meaning.specs.CoreMeaning.Rules.{guarded, chosen_rule, rule_before, rules, value_at, rule_by, rules_by}
 use Rattle.pi_meaning.specs.CoreMeaning.Run.{answered_with}
 use Rattle.pi_core.specs.declared.core_program.NameSlot.{NameSlot}
-use Rattle.pi_meaning.proofs.Traces.BelowLemmas.{below-refl}
-use Rattle.pi_meaning.proofs.Traces.RelatedLemmas.{Same, same, below-by, by-same, by-one, by-alt, by-then, by-then_same, by-first, by-negated, by-chosen, by-collected, by-counted, by-caught}
+use Rattle.pi_traces.proofs.BelowLemmas.{below-refl}
+use Rattle.pi_traces.proofs.RelatedLemmas.{Same, same, below-by, by-same, by-one, by-alt, by-then, by-then_same, by-first, by-negated, by-chosen, by-collected, by-counted, by-caught}
 use Rattle.pi_meaning.proofs.CoreMeaning.MeaningLemmas.{calls-below, at-points, all-monotone, any-monotone, meaning-below, strict-below}
 use Rattle.pi_meaning.specs.Machine.Configuration.{Frame, more, return, give, Back, Called, Choice, rules_left, facts_left, branches_left, Strict, once_level, not_level, if_level, guard_level, value_level, list_level, number_level, Entry, choice, strict, catch_level, left, Now, going, failed, raising, Config, after_body, telling}
 use Rattle.pi_meaning.specs.Machine.Step.{unresolved}

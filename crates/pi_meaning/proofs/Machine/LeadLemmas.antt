@@ -3,16 +3,16 @@ use Rattle.std.proofs.Common.{◌≡◌, ◌≢◌, ℕ, suc, ◌+◌, List, [],
 use Rattle.std.specs.Prelude.{None, replicate}
 use Rattle.pi_constraints.specs.State.{empty_state}
 use Rattle.pi_core.specs.CoreTree.{PredTree, QueryTree}
-use Rattle.pi_meaning.specs.Traces.Trace.{Trace, end, note, ans, End, Deep, Note, Tick, Emitted, noted, answered, then, emit, end_of, events_of, Out}
-use Rattle.pi_meaning.specs.Traces.Depth.{Below, same_note, DepthOnlyAdds}
+use Rattle.pi_traces.specs.Trace.{Trace, end, note, ans, End, Deep, Note, Tick, Emitted, noted, answered, then, emit, end_of, events_of, Out}
+use Rattle.pi_traces.specs.Depth.{Below, same_note, DepthOnlyAdds}
 use Rattle.pi_meaning.specs.Shared.View.{View}
 use Rattle.pi_meaning.specs.CoreMeaning.Builtins.{Builtins, BuiltinsOnlyAdd}
 use Rattle.pi_meaning.specs.CoreMeaning.Instances.{no_later, whole}
 use Rattle.pi_meaning.specs.CoreMeaning.Rules.{level_at}
 use Rattle.pi_meaning.specs.CoreMeaning.Run.{Solution, answered_with, query_trace}
 use Rattle.pi_core.specs.declared.core_program.NameSlot.{NameSlot}
-use Rattle.pi_meaning.proofs.Traces.TraceLemmas.{emit-append}
-use Rattle.pi_meaning.proofs.Traces.BelowLemmas.{below-refl, below-trans, below-whole, below-emit, below-events, below-later}
+use Rattle.pi_traces.proofs.TraceLemmas.{emit-append}
+use Rattle.pi_traces.proofs.BelowLemmas.{below-refl, below-trans, below-whole, below-emit, below-events, below-later}
 use Rattle.pi_meaning.proofs.CoreMeaning.RuleLemmas.{level-below}
 use Rattle.pi_meaning.proofs.Shared.CallLemmas.{no-later-adds, whole-adds}
 use Rattle.pi_meaning.specs.Machine.Configuration.{Config}

@@ -11,7 +11,7 @@ use Rattle.pi_constraints.specs.State.{Variable, bound, State, followed_for, fol
 use Rattle.pi_constraints.specs.Unify.{in_pairs, assigned, joined, outcome, unified_for, unbound_in, cells_of_pairs, most_pairs, all_unified}
 use Rattle.pi_terms.specs.PatternTree.{slot, exact_int, no_patterns, pattern}
 use Rattle.pi_core.specs.GoalTree.{GoalTree, truth, call, seq, alternatives, once, catch, no_goals, goal}
-use Rattle.pi_meaning.specs.Traces.Trace.{Tick, Emitted, noted, answered, alt, then, Out}
+use Rattle.pi_traces.specs.Trace.{Tick, Emitted, noted, answered, alt, then, Out}
 use Rattle.pi_meaning.specs.Shared.Settle.{settled}
 use Rattle.pi_meaning.specs.CoreMeaning.Facts.{fits_modes, fact_term, fact_terms}
 use Rattle.pi_syntax.specs.declared.program.Mode.{Mode}

@@ -8,8 +8,8 @@ use Rattle.pi_terms.specs.Places.{Places}
 use Rattle.pi_constraints.specs.State.{State, next}
 use Rattle.pi_core.specs.GoalTree.{GoalTree, truth, fail, tick, call, apply, seq, alternatives, if_else, not, once, collect, count, catch, GoalTrees, no_goals, goal}
 use Rattle.pi_core.specs.CoreTree.{PredTree, find_pred}
-use Rattle.pi_meaning.specs.Traces.Trace.{Trace, done, one, then, first, note, Out}
-use Rattle.pi_meaning.specs.Traces.Control.{negated, chosen}
+use Rattle.pi_traces.specs.Trace.{Trace, done, one, then, first, note, Out}
+use Rattle.pi_traces.specs.Control.{negated, chosen}
 use Rattle.pi_meaning.specs.Shared.View.{View}
 use Rattle.pi_meaning.specs.CoreMeaning.Builtins.{Builtins}
 use Rattle.pi_meaning.specs.CoreMeaning.Instances.{core_setting, no_later, whole}

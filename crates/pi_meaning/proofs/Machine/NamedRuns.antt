@@ -13,13 +13,13 @@ use Rattle.pi_core.specs.GoalTree.{GoalTree, tick, call, seq, catch, GoalTrees, 
 use Rattle.pi_core.specs.CoreTree.{PredTree}
 use Rattle.pi_effects.specs.BuiltIns.{is_predicate}
 use Rattle.pi_effects.specs.Items.{each_tree}
-use Rattle.pi_meaning.specs.Traces.Trace.{Trace, end, note, Raise, Deep, Tick, one, then}
-use Rattle.pi_meaning.specs.Traces.Control.{caught}
-use Rattle.pi_meaning.specs.Traces.Depth.{Below}
-use Rattle.pi_meaning.specs.Traces.Related.{BelowBy, deeper_by, end_by, note_by}
-use Rattle.pi_meaning.proofs.Traces.TraceLemmas.{then-assoc, then-one, alt-done}
-use Rattle.pi_meaning.proofs.Traces.BelowLemmas.{below-refl}
-use Rattle.pi_meaning.proofs.Traces.RelatedLemmas.{Same, same, by-below, by-one, by-then, by-caught}
+use Rattle.pi_traces.specs.Trace.{Trace, end, note, Raise, Deep, Tick, one, then}
+use Rattle.pi_traces.specs.Control.{caught}
+use Rattle.pi_traces.specs.Depth.{Below}
+use Rattle.pi_traces.specs.Related.{BelowBy, deeper_by, end_by, note_by}
+use Rattle.pi_traces.proofs.TraceLemmas.{then-assoc, then-one, alt-done}
+use Rattle.pi_traces.proofs.BelowLemmas.{below-refl}
+use Rattle.pi_traces.proofs.RelatedLemmas.{Same, same, by-below, by-one, by-then, by-caught}
 use Rattle.pi_meaning.specs.Shared.View.{View}
 use Rattle.pi_meaning.specs.Shared.Settle.{settled}
 use Rattle.pi_meaning.specs.Shared.Level.{Level, Point, calls_at, ticked, or_called}

@@ -7,7 +7,7 @@ use Rattle.pi_constraints.specs.State.{State}
 use Rattle.pi_core.specs.CoreTree.{PredTree}
 use Rattle.pi_effects.specs.Effect.{Effect, FunctionEffect}
 use Rattle.pi_effects.specs.BuiltIns.{built_in_predicate, built_in_function}
-use Rattle.pi_meaning.specs.Traces.Trace.{done}
+use Rattle.pi_traces.specs.Trace.{done}
 use Rattle.pi_meaning.specs.Shared.View.{View}
 use Rattle.pi_meaning.specs.Shared.Level.{Level}
 use Rattle.pi_meaning.specs.Shared.Within.{resource_left}

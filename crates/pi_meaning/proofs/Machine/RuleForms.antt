@@ -5,14 +5,14 @@ use Rattle.std.specs.Prelude.{Bool, true, false, Option, Some, None, cond, repli
 use Rattle.pi_terms.specs.Tree.{Tree, Trees}
 use Rattle.pi_terms.specs.Places.{Places}
 use Rattle.pi_constraints.specs.State.{State, bindings}
-use Rattle.pi_meaning.specs.Traces.Trace.{Trace, end, note, ans, Done, one, alt, then}
-use Rattle.pi_meaning.specs.Traces.Control.{chosen}
+use Rattle.pi_traces.specs.Trace.{Trace, end, note, ans, Done, one, alt, then}
+use Rattle.pi_traces.specs.Control.{chosen}
 use Rattle.pi_meaning.specs.CoreMeaning.Builtins.{Builtins}
 use Rattle.pi_constraints.specs.HeadMatch.{matched_all_in}
 use Rattle.pi_meaning.specs.Shared.Level.{Level, Point}
 use Rattle.pi_core.specs.CoreTree.{ClauseTree, PredTree, find_pred, is_pred}
 use Rattle.pi_meaning.specs.CoreMeaning.Rules.{guarded, chosen_rule, rule_before, rules, body_run, body_or_agent, rule_by, rules_by}
-use Rattle.pi_meaning.proofs.Traces.TraceLemmas.{then-alt}
+use Rattle.pi_traces.proofs.TraceLemmas.{then-alt}
 use Rattle.pi_meaning.specs.Machine.Built.{WithoutEvents, IsOfRules, AreOfRules}
 
 pub chosen-followed : {A B C : Type 0} (t : Trace A) (f : A → Trace B) (u : Trace B) (g : B → Trace C) →

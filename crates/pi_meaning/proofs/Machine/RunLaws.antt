@@ -6,8 +6,8 @@ use Rattle.pi_constraints.specs.State.{State}
 use Rattle.pi_terms.specs.Places.{Places}
 use Rattle.pi_core.specs.GoalTree.{GoalTree, truth, fail, tick, call, apply, seq, alternatives, if_else, not, once, collect, count, catch, GoalTrees, no_goals, goal}
 use Rattle.pi_core.specs.CoreTree.{PredTree, QueryTree, find_pred}
-use Rattle.pi_meaning.specs.Traces.Trace.{Trace, end, note, End, Deep, Tick, Emitted, emit, end_of, count_ticks, ticks}
-use Rattle.pi_meaning.specs.Traces.Depth.{Below, Cut, Ended, Spent, with_events, cut, CutWithoutDeep}
+use Rattle.pi_traces.specs.Trace.{Trace, end, note, End, Deep, Tick, Emitted, emit, end_of, count_ticks, ticks}
+use Rattle.pi_traces.specs.Depth.{Below, Cut, Ended, Spent, with_events, cut, CutWithoutDeep}
 use Rattle.pi_meaning.specs.Shared.View.{View}
 use Rattle.pi_meaning.specs.Shared.Names.{is_later_predicate, is_later_function, is_resource, is_call}
 use Rattle.pi_meaning.specs.CoreMeaning.Instances.{no_later, whole}
@@ -15,8 +15,8 @@ use Rattle.pi_constraints.specs.Evaluation.{EvaluatedAll, evaluated_all}
 use Rattle.pi_meaning.specs.CoreMeaning.Quiet.{TicksBetween}
 use Rattle.pi_meaning.specs.CoreMeaning.Run.{Solution, query_trace, IsRunUnder}
 use Rattle.pi_core.specs.declared.core_program.NameSlot.{NameSlot}
-use Rattle.pi_meaning.proofs.Traces.BelowLemmas.{below-events}
-use Rattle.pi_meaning.proofs.Traces.CutLemmas.{cut-below, cut-emit, cut-all, cut-at_tick}
+use Rattle.pi_traces.proofs.BelowLemmas.{below-events}
+use Rattle.pi_traces.proofs.CutLemmas.{cut-below, cut-emit, cut-all, cut-at_tick}
 use Rattle.pi_meaning.proofs.CoreMeaning.QueryLemmas.{run-deeper}
 use Rattle.pi_meaning.proofs.Shared.CallLemmas.{no-later-adds, whole-adds}
 use Rattle.pi_meaning.specs.Machine.Configuration.{Frame, Entry, choice, strict, catch_level, left, Now, going, failed, raising, Config, behind, telling}

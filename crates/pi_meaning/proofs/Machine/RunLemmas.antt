@@ -5,13 +5,13 @@ use Rattle.pi_terms.specs.Places.{Places}
 use Rattle.pi_constraints.specs.State.{State}
 use Rattle.pi_core.specs.GoalTree.{GoalTree, GoalTrees, no_goals, goal}
 use Rattle.pi_core.specs.CoreTree.{PredTree}
-use Rattle.pi_meaning.specs.Traces.Trace.{Trace, one, then}
+use Rattle.pi_traces.specs.Trace.{Trace, one, then}
 use Rattle.pi_meaning.specs.CoreMeaning.Builtins.{Builtins}
 use Rattle.pi_meaning.specs.Shared.Drain.{drained}
 use Rattle.pi_meaning.specs.Shared.Level.{Level, level_of, Point, calls_at}
 use Rattle.pi_meaning.specs.CoreMeaning.Meaning.{Action, draining, strictly, meaning, meaning_of_all}
 use Rattle.pi_meaning.specs.CoreMeaning.Rules.{calls_of, quiet_level, level_at}
-use Rattle.pi_meaning.proofs.Traces.TraceLemmas.{then-assoc, alt-done}
+use Rattle.pi_traces.proofs.TraceLemmas.{then-assoc, alt-done}
 use Rattle.pi_meaning.specs.Machine.Configuration.{Frame, more, return, give, Entry, Now, behind, returning}
 use Rattle.pi_meaning.specs.Machine.Remaining.{point, continued, run_from, around, now_trace}
 use Rattle.pi_meaning.proofs.Machine.RuleForms.{then-same}

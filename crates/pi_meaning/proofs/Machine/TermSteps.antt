@@ -11,9 +11,9 @@ use Rattle.pi_core.specs.declared.core_program.NameSlot.{NameSlot}
 use Rattle.pi_effects.specs.BuiltIns.{is_predicate}
 use Rattle.pi_effects.specs.Exception.{type_error}
 use Rattle.pi_effects.specs.Items.{each_tree}
-use Rattle.pi_meaning.specs.Traces.Trace.{Trace, end, Done, Raise, then}
-use Rattle.pi_meaning.specs.Traces.Related.{end_by}
-use Rattle.pi_meaning.proofs.Traces.RelatedLemmas.{by-then}
+use Rattle.pi_traces.specs.Trace.{Trace, end, Done, Raise, then}
+use Rattle.pi_traces.specs.Related.{end_by}
+use Rattle.pi_traces.proofs.RelatedLemmas.{by-then}
 use Rattle.pi_meaning.specs.Shared.View.{View}
 use Rattle.pi_meaning.specs.Shared.Level.{Level, lowest, over, LevelBelow, Point, PointBelow, same_but_level, or_called}
 use Rattle.pi_meaning.specs.Shared.Names.{is_later_predicate, is_planner, is_call}

@@ -36,9 +36,9 @@ use Rattle.pi_effects.specs.Format.{pieces, filled_in, formatted}
 use Rattle.pi_effects.specs.Texts.{text_functions, writing_predicates}
 use Rattle.pi_effects.specs.Making.{new_rows, making_functions}
 use Rattle.pi_effects.specs.BuiltIns.{reading_functions, built_in_function, tests, other_predicates, built_in_predicate, is_predicate}
-use Rattle.pi_meaning.specs.Traces.Trace.{end, Raise, then, alt, first, Emitted, noted, answered, Note}
-use Rattle.pi_meaning.specs.Traces.Control.{negated, chosen, collected, counted, caught}
-use Rattle.pi_meaning.specs.Traces.Depth.{Cut, cut, Stop}
+use Rattle.pi_traces.specs.Trace.{end, Raise, then, alt, first, Emitted, noted, answered, Note}
+use Rattle.pi_traces.specs.Control.{negated, chosen, collected, counted, caught}
+use Rattle.pi_traces.specs.Depth.{Cut, cut, Stop}
 use Rattle.pi_meaning.specs.Shared.Settle.{settled}
 use Rattle.pi_meaning.specs.Shared.Drain.{drained}
 use Rattle.pi_meaning.specs.Shared.Raise.{raised_with}

@@ -9,8 +9,8 @@ use Rattle.pi_syntax.specs.ExpTree.{ExpTree}
 use Rattle.pi_syntax.specs.ProgramTree.{RuleTree, FunctionTree, WrittenClause, ProgramTree}
 use Rattle.pi_syntax.specs.declared.program.Decl.{Decl}
 use Rattle.pi_syntax.specs.declared.program.Mode.{Mode}
-use Rattle.pi_meaning.specs.Traces.Trace.{Trace, done, one, then}
-use Rattle.pi_meaning.specs.Traces.Control.{chosen}
+use Rattle.pi_traces.specs.Trace.{Trace, done, one, then}
+use Rattle.pi_traces.specs.Control.{chosen}
 use Rattle.pi_meaning.specs.Shared.Drain.{drained}
 use Rattle.pi_meaning.specs.Shared.Raise.{raised_with}
 use Rattle.pi_meaning.specs.CoreMeaning.Facts.{fits_modes}

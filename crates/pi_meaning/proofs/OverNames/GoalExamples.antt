@@ -6,8 +6,8 @@ use Rattle.pi_effects.specs.Items.{list_of, list_onto as list_before}
 use Rattle.pi_syntax.specs.ExpTree.{ExpTree, list, or, arrow, if_then, quote, branch, no_branches, atom as name, int as number, str}
 use Rattle.pi_syntax.specs.ProgramTree.{function, ProgramTree}
 use Rattle.pi_syntax.specs.declared.program.Decl.{Decl}
-use Rattle.pi_meaning.specs.Traces.Trace.{Tick, Out, Done, Raise, Deep}
-use Rattle.pi_meaning.specs.Traces.Depth.{Ended}
+use Rattle.pi_traces.specs.Trace.{Tick, Out, Done, Raise, Deep}
+use Rattle.pi_traces.specs.Depth.{Ended}
 use Rattle.pi_meaning.specs.Shared.Within.{a_body}
 use Rattle.pi_meaning.specs.OverNames.Prelude.{calls, exps, v, equal, all, part}
 use Rattle.pi_meaning.proofs.Machine.Worked.{Outcome, Seen, seen, told, run_in, run_of, n, compound, is}

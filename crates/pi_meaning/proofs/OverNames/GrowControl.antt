@@ -2,9 +2,9 @@
 use Rattle.std.proofs.Common.{ℕ, zero, suc, List, [], ◌∷◌}
 use Rattle.std.specs.Prelude.{Option, Some, None}
 use Rattle.pi_terms.specs.Tree.{Tree, Trees}
-use Rattle.pi_meaning.specs.Traces.Trace.{Trace, done, one}
-use Rattle.pi_meaning.specs.Traces.Depth.{Below}
-use Rattle.pi_meaning.proofs.Traces.BelowLemmas.{below-refl, below-alt, below-then, below-first, below-negated, below-chosen, below-collected, below-counted, below-caught}
+use Rattle.pi_traces.specs.Trace.{Trace, done, one}
+use Rattle.pi_traces.specs.Depth.{Below}
+use Rattle.pi_traces.proofs.BelowLemmas.{below-refl, below-alt, below-then, below-first, below-negated, below-chosen, below-collected, below-counted, below-caught}
 use Rattle.pi_meaning.specs.Shared.Level.{Level, LevelBelow}
 use Rattle.pi_meaning.proofs.CoreMeaning.MeaningLemmas.{calls-below}
 use Rattle.pi_meaning.specs.OverNames.Place.{Place, at_state}

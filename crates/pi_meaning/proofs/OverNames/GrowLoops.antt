@@ -8,9 +8,9 @@ use Rattle.pi_effects.specs.Value.{value_of}
 use Rattle.pi_effects.specs.declared.operation.Op.TheVariants.{Add}
 use Rattle.pi_effects.specs.Items.{collection_items}
 use Rattle.pi_syntax.specs.ExpTree.{ExpTree}
-use Rattle.pi_meaning.specs.Traces.Trace.{Trace, Tick, one}
-use Rattle.pi_meaning.specs.Traces.Depth.{Below, deeper, same_note}
-use Rattle.pi_meaning.proofs.Traces.BelowLemmas.{below-refl, below-then, below-chosen}
+use Rattle.pi_traces.specs.Trace.{Trace, Tick, one}
+use Rattle.pi_traces.specs.Depth.{Below, deeper, same_note}
+use Rattle.pi_traces.proofs.BelowLemmas.{below-refl, below-then, below-chosen}
 use Rattle.pi_meaning.specs.Shared.Level.{Level, lowest, over, Calls, lower, ticked, LevelBelow}
 use Rattle.pi_meaning.proofs.CoreMeaning.MeaningLemmas.{calls-below}
 use Rattle.pi_meaning.specs.OverNames.Environment.{Environment}

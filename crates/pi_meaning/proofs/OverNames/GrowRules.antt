@@ -6,10 +6,10 @@ use Rattle.pi_constraints.specs.State.{State, bindings}
 use Rattle.pi_syntax.specs.ExpTree.{ExpTree}
 use Rattle.pi_syntax.specs.ProgramTree.{RuleTree, FunctionTree, ProgramTree}
 use Rattle.pi_syntax.specs.declared.program.Mode.{Mode}
-use Rattle.pi_meaning.specs.Traces.Trace.{Trace, Tick, done}
-use Rattle.pi_meaning.specs.Traces.Depth.{Below, deeper, same_note, cut, CutWithoutDeep}
-use Rattle.pi_meaning.proofs.Traces.BelowLemmas.{below-refl, below-alt, below-then, below-chosen}
-use Rattle.pi_meaning.proofs.Traces.CutLemmas.{depths-agree}
+use Rattle.pi_traces.specs.Trace.{Trace, Tick, done}
+use Rattle.pi_traces.specs.Depth.{Below, deeper, same_note, cut, CutWithoutDeep}
+use Rattle.pi_traces.proofs.BelowLemmas.{below-refl, below-alt, below-then, below-chosen}
+use Rattle.pi_traces.proofs.CutLemmas.{depths-agree}
 use Rattle.pi_meaning.specs.Shared.Level.{Level, Applied, CallsBelow, LevelBelow}
 use Rattle.pi_meaning.specs.CoreMeaning.Rules.{chosen_rule}
 use Rattle.pi_meaning.specs.OverNames.Environment.{Environment}
@@ -17,7 +17,7 @@ use Rattle.pi_meaning.specs.OverNames.Place.{Place, beginning}
 use Rattle.pi_meaning.specs.OverNames.WrittenRules.{head_arguments}
 use Rattle.pi_meaning.specs.OverNames.Telling.{telling, place_told, told_trace, told_cut}
 use Rattle.pi_meaning.proofs.Shared.CallLemmas.{no-later-adds}
-use Rattle.pi_meaning.proofs.Traces.ToldCuts.{cut-told}
+use Rattle.pi_meaning.proofs.OverNames.ToldCuts.{cut-told}
 use Rattle.pi_meaning.specs.Shared.View.{View}
 use Rattle.pi_meaning.specs.OverNames.Texts.{Names, places, behind}
 use Rattle.pi_meaning.specs.OverNames.Stages.{LaterStages, no_stages, RulesSetting}

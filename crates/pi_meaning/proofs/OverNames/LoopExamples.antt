@@ -7,8 +7,8 @@ use Rattle.pi_syntax.specs.ExpTree.{ExpTree, no_exps, list, array, or, range, co
 use Rattle.pi_syntax.specs.ProgramTree.{fact, ProgramTree}
 use Rattle.pi_syntax.specs.declared.program.Decl.{Decl}
 use Rattle.pi_syntax.specs.declared.program.Mode.{Mode}
-use Rattle.pi_meaning.specs.Traces.Trace.{Tick, Out, Done, Raise}
-use Rattle.pi_meaning.specs.Traces.Depth.{Ended, Spent}
+use Rattle.pi_traces.specs.Trace.{Tick, Out, Done, Raise}
+use Rattle.pi_traces.specs.Depth.{Ended, Spent}
 use Rattle.pi_meaning.specs.OverNames.Prelude.{calls, exps, v, equal, all}
 use Rattle.pi_meaning.proofs.Machine.Worked.{Outcome, Seen, seen, told, run_of, n, compound, is}
 

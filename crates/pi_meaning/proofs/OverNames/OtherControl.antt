@@ -6,9 +6,9 @@ use Rattle.pi_constraints.specs.Value.{value}
 use Rattle.pi_constraints.specs.State.{State, bindings}
 use Rattle.pi_constraints.specs.Unify.{unified}
 use Rattle.pi_syntax.specs.ExpTree.{ExpTree, var, int, atom as name_of, str, list, list_onto, array, call, quote, index, range, range_by, at, collect, and, or, arrow, if_then, if_else, foreach, while_do, do_while, ExpTrees, no_exps, exp}
-use Rattle.pi_meaning.specs.Traces.Trace.{Trace, Done, done, one, then}
-use Rattle.pi_meaning.specs.Traces.Related.{BelowBy, end_by}
-use Rattle.pi_meaning.proofs.Traces.RelatedLemmas.{Same, same, by-same, by-one, by-alt, by-then, by-first, by-negated, by-chosen, by-collected, by-counted, by-caught}
+use Rattle.pi_traces.specs.Trace.{Trace, Done, done, one, then}
+use Rattle.pi_traces.specs.Related.{BelowBy, end_by}
+use Rattle.pi_traces.proofs.RelatedLemmas.{Same, same, by-same, by-one, by-alt, by-then, by-first, by-negated, by-chosen, by-collected, by-counted, by-caught}
 use Rattle.pi_meaning.specs.Shared.Settle.{settled}
 use Rattle.pi_meaning.specs.Shared.Level.{Level, lowest, over, calls_at, lower, ticked}
 use Rattle.pi_meaning.specs.CoreMeaning.Meaning.{copyable}
@@ -259,8 +259,8 @@ pub catching-steady : (x : List ℕ) (g : Goal) (ball : Value) (handler : Goal) 
 unfolding catching
 catching-steady x g ball handler a c d l p q r = by-then (AgreeValued x) (AgreeAt x) _ _ _ _ (c l p q r) after
   where
-    after : (u w : Valued) → AgreeValued x u w → BelowBy (AgreeAt x) (Rattle.pi_meaning.specs.Traces.Control.caught (strictly g l (place_of u)) (handling u.state u.tree (λ s. handler l (at_state (place_of u) s))))
-        (Rattle.pi_meaning.specs.Traces.Control.caught (strictly g l (place_of w)) (handling w.state w.tree (λ s. handler l (at_state (place_of w) s))))
+    after : (u w : Valued) → AgreeValued x u w → BelowBy (AgreeAt x) (Rattle.pi_traces.specs.Control.caught (strictly g l (place_of u)) (handling u.state u.tree (λ s. handler l (at_state (place_of u) s))))
+        (Rattle.pi_traces.specs.Control.caught (strictly g l (place_of w)) (handling w.state w.tree (λ s. handler l (at_state (place_of w) s))))
     after _ _ (agree_valued t e f b s) =
         by-caught (AgreeAt x) _ _ _ _ (strictly-steady x g a l _ _ (agree_at e f b s))
         (λ raised. handled-steady x s raised _ _ (λ k. d l _ _ (agree_at e f b k)) _)

@@ -11,9 +11,9 @@ use Rattle.pi_effects.specs.declared.operation.Op.TheVariants.{Add}
 use Rattle.pi_effects.specs.Items.{collection_items}
 use Rattle.pi_effects.specs.Indexing.{index_name}
 use Rattle.pi_syntax.specs.ExpTree.{ExpTree}
-use Rattle.pi_meaning.specs.Traces.Trace.{Trace, Deep, Tick, end, one, then}
-use Rattle.pi_meaning.specs.Traces.Related.{BelowBy, end_by, note_by}
-use Rattle.pi_meaning.proofs.Traces.RelatedLemmas.{by-one, by-then, by-chosen}
+use Rattle.pi_traces.specs.Trace.{Trace, Deep, Tick, end, one, then}
+use Rattle.pi_traces.specs.Related.{BelowBy, end_by, note_by}
+use Rattle.pi_traces.proofs.RelatedLemmas.{by-one, by-then, by-chosen}
 use Rattle.pi_meaning.specs.Shared.Settle.{settled_from}
 use Rattle.pi_meaning.specs.Shared.Level.{Level, lowest, over, calls_at, lower, ticked}
 use Rattle.pi_meaning.specs.OverNames.Environment.{Environment, Valued}

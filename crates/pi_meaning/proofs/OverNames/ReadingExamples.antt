@@ -7,8 +7,8 @@ use Rattle.pi_syntax.specs.ExpTree.{ExpTree, list, list_onto, array, range, rang
 use Rattle.pi_syntax.specs.ProgramTree.{function, fact, ProgramTree}
 use Rattle.pi_syntax.specs.declared.program.Decl.{Decl}
 use Rattle.pi_syntax.specs.declared.program.Mode.{Mode}
-use Rattle.pi_meaning.specs.Traces.Trace.{Tick, Out, Done, Raise}
-use Rattle.pi_meaning.specs.Traces.Depth.{Ended}
+use Rattle.pi_traces.specs.Trace.{Tick, Out, Done, Raise}
+use Rattle.pi_traces.specs.Depth.{Ended}
 use Rattle.pi_meaning.specs.Shared.Within.{a_body}
 use Rattle.pi_meaning.specs.OverNames.Prelude.{calls, exps, v, equal, all, part}
 use Rattle.pi_meaning.specs.Shared.View.{query_view}

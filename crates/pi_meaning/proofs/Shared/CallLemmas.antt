@@ -5,8 +5,8 @@ use Rattle.std.specs.Option.{option_or}
 use Rattle.pi_terms.specs.Tree.{Tree, Trees, no_trees, tree, tree_count}
 use Rattle.pi_constraints.specs.State.{State, bindings, followed}
 use Rattle.pi_effects.specs.Items.{each_tree}
-use Rattle.pi_meaning.specs.Traces.Trace.{Trace, end, Deep, Tick, done}
-use Rattle.pi_meaning.specs.Traces.Depth.{Below, deeper, same_note}
+use Rattle.pi_traces.specs.Trace.{Trace, end, Deep, Tick, done}
+use Rattle.pi_traces.specs.Depth.{Below, deeper, same_note}
 use Rattle.pi_meaning.specs.Shared.Settle.{settled}
 use Rattle.pi_meaning.specs.Shared.Level.{Level, lowest, over, Applied, LevelBelow, or_called, or_applied}
 use Rattle.pi_meaning.specs.Shared.Names.{is_later_predicate, is_planner, is_catch, is_call}
@@ -18,7 +18,7 @@ use Rattle.pi_meaning.specs.CoreMeaning.Instances.{tabled, core_setting, predica
 use Rattle.pi_meaning.specs.CoreMeaning.Builtins.{BuiltinsOnlyAdd}
 use Rattle.pi_meaning.specs.Shared.View.{View}
 use Rattle.pi_meaning.specs.CoreMeaning.Laws.{WholeOnlyAdds}
-use Rattle.pi_meaning.proofs.Traces.BelowLemmas.{below-refl, below-then, below-caught}
+use Rattle.pi_traces.proofs.BelowLemmas.{below-refl, below-then, below-caught}
 use Rattle.pi_meaning.proofs.CoreMeaning.MeaningLemmas.{calls-below}
 
 pub cond-below : {X : Type 0} (c : Bool) (t u v w : Trace X) → Below t v → Below u w → Below (cond c t u) (cond c v w)

@@ -4,7 +4,7 @@ use Rattle.pi_meaning.specs.CoreMeaning.Builtins.{Builtins}
 use Rattle.pi_core.specs.CoreTree.{PredTree}
 use Rattle.pi_meaning.specs.Shared.Level.{Level, lowest, over, lower, level_of, Calls, CallsBelow, LevelBelow, calls_at}
 use Rattle.pi_meaning.specs.CoreMeaning.Rules.{calls_of, quiet_level}
-use Rattle.pi_meaning.proofs.Traces.BelowLemmas.{below-refl, below-trans}
+use Rattle.pi_traces.proofs.BelowLemmas.{below-refl, below-trans}
 use Rattle.pi_meaning.proofs.CoreMeaning.MeaningLemmas.{calls-below}
 
 pub calls-itself : (c : Calls) → CallsBelow c c

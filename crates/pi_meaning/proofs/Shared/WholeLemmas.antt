@@ -15,9 +15,9 @@ use Rattle.pi_effects.specs.Rows.{has_line}
 use Rattle.pi_effects.specs.BuiltIns.{tests, other_predicates, built_in_predicate, built_in_function, is_predicate, is_function}
 use Rattle.pi_effects.proofs.BuiltInLemmas.{predicates-listed, functions-listed}
 use Rattle.pi_effects.proofs.RowLemmas.{some-map}
-use Rattle.pi_meaning.specs.Traces.Trace.{Trace}
-use Rattle.pi_meaning.specs.Traces.Depth.{Below}
-use Rattle.pi_meaning.proofs.Traces.BelowLemmas.{below-antisym}
+use Rattle.pi_traces.specs.Trace.{Trace}
+use Rattle.pi_traces.specs.Depth.{Below}
+use Rattle.pi_traces.proofs.BelowLemmas.{below-antisym}
 use Rattle.pi_meaning.specs.Shared.View.{View}
 use Rattle.pi_meaning.specs.Shared.Level.{Level, Applied, or_called, or_applied}
 use Rattle.pi_meaning.specs.Shared.Names.{is_later_predicate, is_later_function, is_resource, is_call, is_given}

@@ -2,8 +2,8 @@
 use Rattle.std.specs.Prelude.{ℕ, List, Option}
 use Rattle.pi_terms.specs.Tree.{Trees}
 use Rattle.pi_constraints.specs.State.{State}
-use Rattle.pi_meaning.specs.Traces.Trace.{Trace}
-use Rattle.pi_meaning.specs.Traces.Depth.{Below}
+use Rattle.pi_traces.specs.Trace.{Trace}
+use Rattle.pi_traces.specs.Depth.{Below}
 use Rattle.pi_meaning.specs.Shared.Level.{Level, Applied, LevelBelow, or_called, or_applied}
 
 -- what a predicate, and what a function, of this name does with these arguments, at a level, from the state behind their evaluation, and settled from that; None where the

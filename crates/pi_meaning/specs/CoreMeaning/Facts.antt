@@ -8,7 +8,7 @@ use Rattle.pi_terms.specs.PatternTree.{PatternTree, slot, exact_int, exact_atom,
 use Rattle.pi_constraints.specs.Value.{Bindings}
 use Rattle.pi_constraints.specs.State.{State, bindings}
 use Rattle.pi_constraints.specs.Unify.{unified}
-use Rattle.pi_meaning.specs.Traces.Trace.{Trace, done, alt}
+use Rattle.pi_traces.specs.Trace.{Trace, done, alt}
 use Rattle.pi_effects.specs.Kinds.{holds_no_variable}
 use Rattle.pi_constraints.specs.Evaluation.{Evaluated, EvaluatedAll, slot_term}
 use Rattle.pi_meaning.specs.Shared.Settle.{settled_from}

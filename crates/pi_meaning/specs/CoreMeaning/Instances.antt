@@ -4,7 +4,7 @@ use Rattle.std.specs.Prelude.{ℕ, Bool, false, not, cond, List, Option, Some, N
 use Rattle.pi_terms.specs.Tree.{Trees, tree_count}
 use Rattle.pi_constraints.specs.State.{State}
 use Rattle.pi_core.specs.CoreTree.{PredTree, find_pred}
-use Rattle.pi_meaning.specs.Traces.Trace.{Trace, done}
+use Rattle.pi_traces.specs.Trace.{Trace, done}
 use Rattle.pi_meaning.specs.Shared.View.{View}
 use Rattle.pi_meaning.specs.Shared.Level.{Level}
 use Rattle.pi_meaning.specs.Shared.Names.{is_call}

@@ -5,9 +5,9 @@ use Rattle.pi_terms.specs.Tree.{Trees, tree_count}
 use Rattle.pi_constraints.specs.State.{State, next, IsState, PlacesBelow}
 use Rattle.pi_core.specs.GoalTree.{GoalTree}
 use Rattle.pi_effects.specs.BuiltIns.{is_predicate}
-use Rattle.pi_meaning.specs.Traces.Trace.{WithoutDeep, answers}
-use Rattle.pi_meaning.specs.Traces.Depth.{DepthOnlyAdds, Cut, cut, CutWithoutDeep}
-use Rattle.pi_meaning.specs.Traces.Related.{BelowBy}
+use Rattle.pi_traces.specs.Trace.{WithoutDeep, answers}
+use Rattle.pi_traces.specs.Depth.{DepthOnlyAdds, Cut, cut, CutWithoutDeep}
+use Rattle.pi_traces.specs.Related.{BelowBy}
 use Rattle.pi_meaning.specs.Shared.View.{View, PlansAreGround}
 use Rattle.pi_meaning.specs.Shared.Names.{is_given}
 use Rattle.pi_meaning.specs.CoreMeaning.Builtins.{Builtins, BuiltinsOnlyAdd}

@@ -5,8 +5,8 @@ use Rattle.std.specs.Prelude.{ℕ, zero, suc, ◌+◌, Bool, true, false, List, 
 use Rattle.pi_terms.specs.Tree.{Tree, var, comp, Trees, no_trees, tree, trees_of, tree_count}
 use Rattle.pi_terms.specs.Places.{Places}
 use Rattle.pi_constraints.specs.State.{State, bindings, WatchTree, on_ins, on_bound, on_dom, on_dom_any, on_posted, with_agent}
-use Rattle.pi_meaning.specs.Traces.Trace.{Trace, done, one, alt, then}
-use Rattle.pi_meaning.specs.Traces.Control.{chosen}
+use Rattle.pi_traces.specs.Trace.{Trace, done, one, alt, then}
+use Rattle.pi_traces.specs.Control.{chosen}
 use Rattle.pi_core.specs.GoalTree.{GoalTree, truth}
 use Rattle.pi_meaning.specs.CoreMeaning.Builtins.{Builtins}
 use Rattle.pi_meaning.specs.Shared.Drain.{drained}

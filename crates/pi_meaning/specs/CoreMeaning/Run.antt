@@ -3,8 +3,8 @@
 use Rattle.std.specs.Prelude.{◌≡◌, ℕ, List, [], ◌∷◌, ◌++◌, None, replicate}
 use Rattle.pi_terms.specs.Places.{Places}
 use Rattle.pi_constraints.specs.State.{State, empty_state}
-use Rattle.pi_meaning.specs.Traces.Trace.{Trace, then, one}
-use Rattle.pi_meaning.specs.Traces.Depth.{Cut, cut, CutWithoutDeep}
+use Rattle.pi_traces.specs.Trace.{Trace, then, one}
+use Rattle.pi_traces.specs.Depth.{Cut, cut, CutWithoutDeep}
 use Rattle.pi_meaning.specs.Shared.View.{query_view}
 use Rattle.pi_meaning.specs.CoreMeaning.Builtins.{Builtins}
 use Rattle.pi_meaning.specs.CoreMeaning.Instances.{no_later, whole}

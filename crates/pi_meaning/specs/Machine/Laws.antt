@@ -5,8 +5,8 @@ use Rattle.pi_terms.specs.Places.{Places}
 use Rattle.pi_constraints.specs.State.{State}
 use Rattle.pi_core.specs.GoalTree.{GoalTree, no_goals, goal}
 use Rattle.pi_core.specs.CoreTree.{ClauseTree, PredTree, leaves_others}
-use Rattle.pi_meaning.specs.Traces.Trace.{end, note, ans, Tick, Out}
-use Rattle.pi_meaning.specs.Traces.Depth.{Below}
+use Rattle.pi_traces.specs.Trace.{end, note, ans, Tick, Out}
+use Rattle.pi_traces.specs.Depth.{Below}
 use Rattle.pi_meaning.specs.Shared.View.{View}
 use Rattle.pi_core.specs.declared.core_program.NameSlot.{NameSlot}
 use Rattle.pi_meaning.specs.Machine.Configuration.{Back, Called, once_level, not_level, if_level, guard_level, value_level, Entry, Config}

@@ -2,8 +2,8 @@
 -- from below: at each depth after, and at some depth before. No depth is counted.
 use Rattle.std.specs.Prelude.{◌≡◌, ◌≢◌, ◌≤◌, ◌<◌, ℕ, ◌+◌, List, [], ◌++◌}
 use Rattle.pi_core.specs.CoreTree.{PredTree, QueryTree}
-use Rattle.pi_meaning.specs.Traces.Trace.{Trace, end, note, End, Call, Deep, Note, Tick, Emitted, emit, count_ticks, then}
-use Rattle.pi_meaning.specs.Traces.Depth.{Below, DepthOnlyAdds, Cut, Ended, Spent, with_events, CutWithoutDeep}
+use Rattle.pi_traces.specs.Trace.{Trace, end, note, End, Call, Deep, Note, Tick, Emitted, emit, count_ticks, then}
+use Rattle.pi_traces.specs.Depth.{Below, DepthOnlyAdds, Cut, Ended, Spent, with_events, CutWithoutDeep}
 use Rattle.pi_constraints.specs.State.{State}
 use Rattle.pi_meaning.specs.Shared.View.{View, Wanted, reading}
 use Rattle.pi_meaning.specs.CoreMeaning.Instances.{no_later, whole}

@@ -2,7 +2,7 @@
 -- end, and the rest is what remains after it.
 use Rattle.std.specs.Prelude.{◌≡◌, ℕ, List, [], ◌∷◌, ◌++◌, replicate}
 use Rattle.pi_core.specs.CoreTree.{PredTree}
-use Rattle.pi_meaning.specs.Traces.Trace.{Done, Raise, Tick, Out, Emitted, noted, answered}
+use Rattle.pi_traces.specs.Trace.{Done, Raise, Tick, Out, Emitted, noted, answered}
 use Rattle.pi_meaning.specs.Shared.View.{View}
 use Rattle.pi_meaning.specs.CoreMeaning.Run.{Solution}
 use Rattle.pi_meaning.specs.Shared.Told.{answer_of}

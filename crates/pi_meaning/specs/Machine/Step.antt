@@ -9,7 +9,7 @@ use Rattle.pi_constraints.specs.State.{State, bindings, next, empty_state, follo
 use Rattle.pi_constraints.specs.Unify.{unified}
 use Rattle.pi_core.specs.GoalTree.{GoalTree, truth, fail, tick, call, apply, seq, alternatives, if_else, not, once, collect, count, catch, GoalTrees, no_goals, goal}
 use Rattle.pi_core.specs.CoreTree.{ClauseTree, PredTree, QueryTree, find_pred, leaves_others}
-use Rattle.pi_meaning.specs.Traces.Trace.{End, Done, Raise}
+use Rattle.pi_traces.specs.Trace.{End, Done, Raise}
 use Rattle.pi_effects.specs.Effect.{Effect, Succeeds, Fails, Writes, Raises, FunctionEffect, Gives, Refuses}
 use Rattle.pi_effects.specs.BuiltIns.{built_in_predicate, built_in_function}
 use Rattle.pi_effects.specs.Exception.{type_error}

@@ -6,8 +6,8 @@ use Rattle.pi_terms.specs.ListCopies.{new_in_all, list_of_copies}
 use Rattle.pi_constraints.specs.Value.{value}
 use Rattle.pi_constraints.specs.State.{bindings, next}
 use Rattle.pi_constraints.specs.Evaluation.{with_new_variables}
-use Rattle.pi_meaning.specs.Traces.Trace.{Trace, done, one, alt, then, first}
-use Rattle.pi_meaning.specs.Traces.Control.{negated, chosen, collected, counted, caught}
+use Rattle.pi_traces.specs.Trace.{Trace, done, one, alt, then, first}
+use Rattle.pi_traces.specs.Control.{negated, chosen, collected, counted, caught}
 use Rattle.pi_meaning.specs.Shared.Level.{Level, calls_at}
 use Rattle.pi_meaning.specs.CoreMeaning.Meaning.{copyable}
 use Rattle.pi_meaning.specs.Shared.Handling.{handling}

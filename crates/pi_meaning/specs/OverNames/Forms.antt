@@ -4,7 +4,7 @@ use Rattle.std.specs.Prelude.{ℕ, ◌==◌, ◌&&◌, ◌||◌, Bool, cond, Lis
 use Rattle.std.specs.Str.{bytes_eq}
 use Rattle.pi_terms.specs.Tree.{comp}
 use Rattle.pi_syntax.specs.Tokens.{is_one_of}
-use Rattle.pi_meaning.specs.Traces.Trace.{done, one}
+use Rattle.pi_traces.specs.Trace.{done, one}
 use Rattle.pi_effects.specs.Indexing.{index_name}
 use Rattle.pi_meaning.specs.Shared.Names.{is_catch, is_call}
 use Rattle.pi_meaning.specs.Shared.Given.{Setting}

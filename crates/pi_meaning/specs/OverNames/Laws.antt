@@ -9,8 +9,8 @@ use Rattle.pi_syntax.specs.ExpTree.{ExpTree, atom, str, list, call, ExpTrees, no
 use Rattle.pi_syntax.specs.ProgramTree.{ProgramTree}
 use Rattle.pi_syntax.specs.Signature.{exp_count}
 use Rattle.pi_effects.specs.BuiltIns.{is_predicate}
-use Rattle.pi_meaning.specs.Traces.Trace.{Trace, one, then}
-use Rattle.pi_meaning.specs.Traces.Depth.{DepthOnlyAdds, Cut, CutWithoutDeep}
+use Rattle.pi_traces.specs.Trace.{Trace, one, then}
+use Rattle.pi_traces.specs.Depth.{DepthOnlyAdds, Cut, CutWithoutDeep}
 use Rattle.pi_meaning.specs.Shared.View.{View}
 use Rattle.pi_meaning.specs.Shared.Level.{Level, Applied}
 use Rattle.pi_meaning.specs.Shared.Names.{is_later_predicate}

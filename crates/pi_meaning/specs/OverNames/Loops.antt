@@ -14,7 +14,7 @@ use Rattle.pi_effects.specs.declared.operation.Op.TheVariants.{Add}
 use Rattle.pi_effects.specs.Exception.{type_error}
 use Rattle.pi_effects.specs.Integers.{fault_term}
 use Rattle.pi_syntax.specs.ExpTree.{ExpTree}
-use Rattle.pi_meaning.specs.Traces.Trace.{Trace, end, note, Tick, Deep, Raise, one, then}
+use Rattle.pi_traces.specs.Trace.{Trace, end, note, Tick, Deep, Raise, one, then}
 use Rattle.pi_meaning.specs.Shared.Settle.{settled_from}
 use Rattle.pi_meaning.specs.Shared.Level.{Level, lowest, over, calls_at, lower, ticked}
 use Rattle.pi_meaning.specs.OverNames.Environment.{Environment, meant, known, name_valued}

@@ -3,7 +3,7 @@ use Rattle.std.specs.Prelude.{◌≡◌, ℕ, false, List, [], ◌∷◌, ⊤}
 use Rattle.std.specs.Str.{bytes_eq}
 use Rattle.pi_constraints.specs.State.{State}
 use Rattle.pi_syntax.specs.ExpTree.{ExpTree, var, int, atom, str, list, list_onto, array, call, quote, index, range, range_by, at, collect, and, or, arrow, if_then, if_else, foreach, while_do, do_while, ExpTrees, no_exps, exp, ExpBranches, no_branches, branch}
-use Rattle.pi_meaning.specs.Traces.Related.{BelowBy}
+use Rattle.pi_traces.specs.Related.{BelowBy}
 use Rattle.pi_meaning.specs.Shared.Level.{Level}
 use Rattle.pi_meaning.specs.Shared.Given.{Setting}
 use Rattle.pi_meaning.specs.OverNames.Environment.{Environment, meant}

@@ -1,7 +1,7 @@
 -- Places in a run over names, and what a goal does from one. (Own.)
 use Rattle.std.specs.Prelude.{[]}
 use Rattle.pi_constraints.specs.State.{State, empty_state}
-use Rattle.pi_meaning.specs.Traces.Trace.{Trace}
+use Rattle.pi_traces.specs.Trace.{Trace}
 use Rattle.pi_meaning.specs.OverNames.Environment.{Environment}
 
 -- a place in a run: what the names stand for, and the state

@@ -6,8 +6,8 @@ use Rattle.pi_constraints.specs.Value.{value}
 use Rattle.pi_constraints.specs.State.{State, bindings}
 use Rattle.pi_constraints.specs.ToldDomains.{told_domains}
 use Rattle.pi_syntax.specs.ExpTree.{ExpTree}
-use Rattle.pi_meaning.specs.Traces.Trace.{Trace, Emitted, noted, answered, one, then}
-use Rattle.pi_meaning.specs.Traces.Depth.{Cut}
+use Rattle.pi_traces.specs.Trace.{Trace, Emitted, noted, answered, one, then}
+use Rattle.pi_traces.specs.Depth.{Cut}
 use Rattle.pi_core.specs.AnswerVariables.{answer_variables}
 use Rattle.pi_core.specs.declared.answer.Answer.{Answer}
 use Rattle.pi_core.specs.declared.answer.NamedTerm.{NamedTerm}

@@ -4,7 +4,7 @@ use Rattle.pi_terms.specs.Tree.{Trees, atom}
 use Rattle.pi_constraints.specs.State.{State}
 use Rattle.pi_effects.specs.Effect.{Effect, Succeeds, Fails, Writes, Raises, FunctionEffect, Gives, Refuses}
 use Rattle.pi_effects.specs.BuiltIns.{built_in_predicate, built_in_function}
-use Rattle.pi_meaning.specs.Traces.Trace.{Trace, end, note, Raise, Out, done, one, then}
+use Rattle.pi_traces.specs.Trace.{Trace, end, note, Raise, Out, done, one, then}
 use Rattle.pi_meaning.specs.Shared.Settle.{settled}
 use Rattle.pi_meaning.specs.Shared.Within.{is_body}
 use Rattle.pi_meaning.specs.Shared.View.{View}

@@ -7,8 +7,8 @@ use Rattle.pi_constraints.specs.State.{State, bindings, followed}
 use Rattle.pi_effects.specs.Exception.{type_error}
 use Rattle.pi_effects.specs.Items.{each_tree}
 use Rattle.pi_effects.specs.BuiltIns.{built_in_predicate, built_in_function, is_predicate}
-use Rattle.pi_meaning.specs.Traces.Trace.{Trace, end, note, Raise, Deep, Tick, done, then}
-use Rattle.pi_meaning.specs.Traces.Control.{caught}
+use Rattle.pi_traces.specs.Trace.{Trace, end, note, Raise, Deep, Tick, done, then}
+use Rattle.pi_traces.specs.Control.{caught}
 use Rattle.pi_meaning.specs.Shared.Builtin.{settled_effect, function_trace}
 use Rattle.pi_meaning.specs.Shared.Level.{Level, lowest, over, Applied, calls_at, or_called, or_applied}
 use Rattle.pi_meaning.specs.Shared.Within.{resource_left}

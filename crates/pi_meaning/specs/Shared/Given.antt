@@ -3,8 +3,8 @@
 use Rattle.std.specs.Prelude.{ℕ, Bool, List}
 use Rattle.pi_terms.specs.Tree.{Trees}
 use Rattle.pi_constraints.specs.State.{State}
-use Rattle.pi_meaning.specs.Traces.Trace.{Trace}
-use Rattle.pi_meaning.specs.Traces.Depth.{Below}
+use Rattle.pi_traces.specs.Trace.{Trace}
+use Rattle.pi_traces.specs.Depth.{Below}
 use Rattle.pi_meaning.specs.Shared.View.{View}
 use Rattle.pi_meaning.specs.Shared.Level.{Level, Applied, LevelBelow}
 

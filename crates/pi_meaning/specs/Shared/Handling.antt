@@ -5,7 +5,7 @@ use Rattle.pi_terms.specs.Copy.{copy, new_variables}
 use Rattle.pi_constraints.specs.State.{State, next}
 use Rattle.pi_constraints.specs.Unify.{unified}
 use Rattle.pi_constraints.specs.Evaluation.{with_new_variables}
-use Rattle.pi_meaning.specs.Traces.Trace.{Trace, end, Raise, then}
+use Rattle.pi_traces.specs.Trace.{Trace, end, Raise, then}
 use Rattle.pi_meaning.specs.Shared.Settle.{settled}
 
 -- where a term is raised, a copy of it is unified with what is to be caught, in the state in which the goal began. That is settled, and what handles it goes on; where they

@@ -6,8 +6,8 @@ use Rattle.std.specs.Prelude.{ℕ, List, Option, Some, None}
 use Rattle.pi_terms.specs.Tree.{Tree, Trees}
 use Rattle.pi_terms.specs.Places.{Places}
 use Rattle.pi_constraints.specs.State.{State}
-use Rattle.pi_meaning.specs.Traces.Trace.{Trace, end, note, Deep, Tick}
-use Rattle.pi_meaning.specs.Traces.Depth.{Below}
+use Rattle.pi_traces.specs.Trace.{Trace, end, note, Deep, Tick}
+use Rattle.pi_traces.specs.Depth.{Below}
 
 -- an answer of a function call: its value, and the state after it
 pub record Applied : Type 0 where

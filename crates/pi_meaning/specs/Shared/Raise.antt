@@ -3,7 +3,7 @@ use Rattle.std.specs.Prelude.{ℕ, nat_lt, cond, List}
 use Rattle.pi_terms.specs.Tree.{Tree, cells, most_cells}
 use Rattle.pi_constraints.specs.State.{State}
 use Rattle.pi_effects.specs.Exception.{term_too_large, exception_with}
-use Rattle.pi_meaning.specs.Traces.Trace.{Trace, end, End, Raise}
+use Rattle.pi_traces.specs.Trace.{Trace, end, End, Raise}
 
 abbrev pub too_large : End
 too_large = Raise term_too_large

@@ -3,7 +3,7 @@
 -- event is posted yet, so an agent that is made waits on.
 use Rattle.std.specs.Prelude.{Option, Some, None}
 use Rattle.pi_constraints.specs.State.{State}
-use Rattle.pi_meaning.specs.Traces.Trace.{Trace, one, done}
+use Rattle.pi_traces.specs.Trace.{Trace, one, done}
 
 -- the second state settled, where the goal began in the first
 unfoldable pub settled : State → State → Trace State

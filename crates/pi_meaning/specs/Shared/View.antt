@@ -7,7 +7,7 @@ use Rattle.pi_terms.specs.Order.{identical}
 use Rattle.pi_terms.specs.Variables.{IsGround}
 use Rattle.pi_constraints.specs.State.{State}
 use Rattle.pi_constraints.specs.Unify.{unified}
-use Rattle.pi_meaning.specs.Traces.Trace.{Trace, end, Call, Raise, Abort, Miss, done}
+use Rattle.pi_traces.specs.Trace.{Trace, end, Call, Raise, Abort, Miss, done}
 use Rattle.pi_meaning.specs.Shared.Settle.{settled_from}
 use Rattle.pi_meaning.specs.Shared.Within.{Within, a_query, a_body, is_body}
 use Rattle.pi_core.specs.declared.log.LogEntry.{LogEntry}

@@ -3,7 +3,7 @@
 use Rattle.std.specs.Prelude.{ℕ, pos, Bool, true, false, codes}
 use Rattle.pi_terms.specs.Tree.{int, atom}
 use Rattle.pi_constraints.specs.State.{State}
-use Rattle.pi_meaning.specs.Traces.Trace.{Trace, end, Raise, one}
+use Rattle.pi_traces.specs.Trace.{Trace, end, Raise, one}
 use Rattle.pi_meaning.specs.Shared.Level.{Applied}
 
 -- a query, or the body of a planner call with so much of its limit left

@@ -1,8 +1,0 @@
--- Lemmas on traces.
-pub mod AnswerLemmas
-pub mod BelowLemmas
-pub mod CutLemmas
-pub mod LastLemmas
-pub mod RelatedLemmas
-pub mod ToldCuts
-pub mod TraceLemmas
