@@ -8,7 +8,7 @@ use Rattle.pi_constraints.specs.Domain.{values_of}
 use Rattle.pi_constraints.specs.State.{State, Variable, free, within, bound, binding, bindings, next, followed}
 use Rattle.pi_constraints.proofs.StateLemmas.{variable, held_is, as_many}
 use Rattle.pi_constraints.proofs.FollowLemmas.{followed_later}
-use Rattle.pi_settling.specs.Settle.{is_kept, integers_left, variable_with, variable_left, variables_left, with_variables, run_of, runs_of, count_all, passes, stable_state}
+use Rattle.pi_settling.specs.Settle.{is_kept, integers_left, variable_with, variable_left, variables_left, with_variables, run_of, runs_of, count_all, until_same, passes, stable_state}
 use Rattle.pi_settling.specs.SettleLaws.{SettlingMakesNoVariable, FollowedStay}
 use Rattle.pi_settling.proofs.RootLemmas.{Kept}
 use Rattle.pi_settling.proofs.SettleVariables.{parts-of}
@@ -70,17 +70,17 @@ runs-stay (c ∷ cs) s r e =
     let w = and-then (runs_of cs) (run_of c s) r e in
     compose s w.0 r (run-stays s c w.0 w.1) (runs-stay cs w.0 r w.2)
 
-one-of : (b : Bool) (q r : State) (o : Option State) → cond b (Some q) o ≡ Some r → (q ≡ r) ⊎ (o ≡ Some r)
-one-of true q r o e = let same : q ≡ r = cc in inl same
-one-of false q r o e = inr e
+one-of : (b : Bool) (q r : State) (f : State → Option State) → until_same b q f ≡ Some r → (q ≡ r) ⊎ (f q ≡ Some r)
+one-of true q r f e = let same : q ≡ r = cc in inl same
+one-of false q r f e = inr e
 
 passes-stay : (k : ℕ) (s r : State) → passes k s ≡ Some r → StaysBound s r
 unfolding passes
 passes-stay zero s r e = let same : s ≡ r = cc in subst (StaysBound s) same (itself s)
 passes-stay (suc k) s r e =
-    let w = and-then (λ q. cond (count_all q == count_all s) (Some q) (passes k q)) (runs_of s.constraints s) r e in
+    let w = and-then (λ q. until_same (count_all q == count_all s) q (passes k)) (runs_of s.constraints s) r e in
     let here : StaysBound s w.0 = runs-stay s.constraints s w.0 w.1 in
-    elim (one-of (count_all w.0 == count_all s) w.0 r (passes k w.0) w.2) [
+    elim (one-of (count_all w.0 == count_all s) w.0 r (passes k) w.2) [
       | inl same ↦ subst (StaysBound s) same here
       | inr more ↦ compose s w.0 r here (passes-stay k w.0 r more)
     ]

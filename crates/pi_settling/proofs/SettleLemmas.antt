@@ -3,8 +3,8 @@ use Rattle.std.specs.Prelude.{◌≡◌, ◌⊎◌, ℕ, zero, suc, ◌==◌, �
 use Rattle.std.proofs.Common.{arith, sym, ◌∙◌, ap, subst, inl, inr}
 use Rattle.std.proofs.lemmas.Bool.{cases_Bool}
 use Rattle.std.proofs.lemmas.Bool.Decides.{Decides-eqb}
-use Rattle.std.proofs.lemmas.Option.{slice_get-get_or}
-use Rattle.pi_meaning.specs.Traces.Trace.{Trace, one, done}
+use Rattle.std.proofs.lemmas.Option.{slice_get-get_or, option_and_then_some}
+use Rattle.pi_traces.specs.Trace.{Trace, one, done}
 use Rattle.pi_constraints.specs.declared.constraint.Constraint.{Constraint}
 use Rattle.pi_constraints.proofs.DomainLemmas.{not_both}
 use Rattle.pi_constraints.specs.State.{State, IsState}
@@ -13,7 +13,7 @@ use Rattle.pi_settling.specs.Settled.{loaded, IsSettled}
 use Rattle.pi_settling.specs.SettlingLaws.{MaySettle, Settles}
 use Rattle.pi_settling.specs.Run.{ChangesNothing}
 use Rattle.pi_settling.specs.Calm.{IsCalm}
-use Rattle.pi_settling.specs.Settle.{run_of, runs_of, count_all, passes, stable_state, settlement_by, answer_with, settled}
+use Rattle.pi_settling.specs.Settle.{run_of, runs_of, count_all, until_same, passes, stable_state, settlement_by, answer_with, settlement, settled}
 use Rattle.pi_settling.specs.SettleLaws.{GivesTheStableState, FindsWhatIsEmptied, SettledSettles, CalmIsSettled}
 use Rattle.pi_settling.proofs.RunLemmas.{IsBetween, between-start, between-run, lost-empties}
 use Rattle.pi_settling.proofs.SizeLemmas.{in-front, behind, front-or-behind, none-there}
@@ -37,8 +37,7 @@ record HavePassed (s r : State) (cs : List Constraint) (q : State) : Type 0 wher
   same : count_all q ≡ count_all r → (q ≡ r) × ((c : Constraint) → Contains cs c → ChangesNothing r c)
 
 pub and-then : {A B : Type 0} (f : A → Option B) (o : Option A) (y : B) → option_and_then f o ≡ Some y → (x : A) × (o ≡ Some x) × (f x ≡ Some y)
-and-then f (Some x) y e = (x, refl, e)
-and-then f None y e = absurd (cc)
+and-then f o y e = option_and_then_some f o y e (λ x at g. (x, at, g))
 
 and-then-none : {A B : Type 0} (f : A → Option B) (o : Option A) → option_and_then f o ≡ None → (o ≡ None) ⊎ ((x : A) × (o ≡ Some x) × (f x ≡ None))
 and-then-none f (Some x) e = inr (x, refl, e)
@@ -101,12 +100,12 @@ other-count : (q r : State) → (count_all q == count_all r) ≡ false → count
 other-count q r f e = not_both (count_all q == count_all r) ((Decides-eqb (count_all q) (count_all r)).1 e) f
 
 -- a pass behind which there are further ones, where it took a value
-after-pass : (s r q t : State) (k : ℕ) (b : Bool) → (count_all q == count_all r) ≡ b → cond b (Some q) (passes k q) ≡ Some t →
+after-pass : (s r q t : State) (k : ℕ) (b : Bool) → (count_all q == count_all r) ≡ b → until_same b q (passes k) ≡ Some t →
     ((count_all q ≡ count_all r) × (q ≡ t)) ⊎ ((count_all q ≡ count_all r → ⊥) × (passes k q ≡ Some t))
 after-pass s r q t k true at e = inl (same-count q r at, let same : q ≡ t = cc in same)
 after-pass s r q t k false at e = inr (other-count q r at, e)
 
-no-pass : (s r q : State) (k : ℕ) (b : Bool) → (count_all q == count_all r) ≡ b → cond b (Some q) (passes k q) ≡ None → (count_all q ≡ count_all r → ⊥) × (passes k q ≡ None)
+no-pass : (s r q : State) (k : ℕ) (b : Bool) → (count_all q == count_all r) ≡ b → until_same b q (passes k) ≡ None → (count_all q ≡ count_all r → ⊥) × (passes k q ≡ None)
 no-pass s r q k true at e = absurd (cc)
 no-pass s r q k false at e = (other-count q r at, e)
 
@@ -117,7 +116,7 @@ passes-end : (s : State) (k : ℕ) (r t : State) → IsState s → MaySettle s �
 unfolding passes
 passes-end s zero r t is may b l e = absurd (omega (arith, l))
 passes-end s (suc k) r t is may b l e =
-    let w = and-then (λ q. cond (count_all q == count_all r) (Some q) (passes k q)) (runs_of r.constraints r) t e in
+    let w = and-then (λ q. until_same (count_all q == count_all r) q (passes k)) (runs_of r.constraints r) t e in
     let h : HavePassed s r r.constraints w.0 = pass s r r.constraints w.0 is may b (all-posted s r b) w.1 in
     elim (after-pass s r w.0 t k (count_all w.0 == count_all r) refl w.2) [
       | inl (same, is-it) ↦ subst (IsStable s) is-it (done-after s r w.0 is may b h same)
@@ -127,7 +126,7 @@ passes-end s (suc k) r t is may b l e =
 passes-fail : (s : State) (k : ℕ) (r : State) → IsState s → MaySettle s → IsBetween s r → count_all r < k → passes k r ≡ None → IsEmptied s
 unfolding passes
 passes-fail s zero r is may b l e = absurd (omega (arith, l))
-passes-fail s (suc k) r is may b l e = elim (and-then-none (λ q. cond (count_all q == count_all r) (Some q) (passes k q)) (runs_of r.constraints r) e) [
+passes-fail s (suc k) r is may b l e = elim (and-then-none (λ q. until_same (count_all q == count_all r) q (passes k)) (runs_of r.constraints r) e) [
   | inl none ↦ pass-fails s r r.constraints is may b (all-posted s r b) none
   | inr (q, at, none) ↦
       let h : HavePassed s r r.constraints q = pass s r r.constraints q is may b (all-posted s r b) at in
@@ -150,6 +149,7 @@ settles-by before s None is may e = inl (finds_what_is_emptied s is may e, refl)
 settles-by before s (Some r) is may e = inr (r, gives_the_stable_state s r is may e, refl)
 
 pub settled_settles : SettledSettles
+unfolding settlement settled
 settled_settles = record { each = λ before s is may. settles-by before s (stable_state s) is may refl }
 
 -- a calm state is its own stable state

@@ -7,7 +7,7 @@ use Rattle.pi_constraints.specs.declared.constraint.Item.{Item}
 use Rattle.pi_constraints.specs.Domain.{values_of, size_of}
 use Rattle.pi_prop_spec.specs.Places.{places_of}
 use Rattle.pi_prop_spec.specs.Decided.{each_below, if_so, leaves}
-use Rattle.pi_meaning.specs.Traces.Trace.{Trace, one, done}
+use Rattle.pi_traces.specs.Trace.{Trace, one, done}
 use Rattle.pi_constraints.specs.State.{State, Variable, free, within, bound}
 use Rattle.pi_settling.specs.Roots.{root_item}
 use Rattle.pi_settling.specs.Run.{given_at}
@@ -77,12 +77,17 @@ count_within_domain (bound t) = 0
 abbrev pub count_all : State → ℕ
 count_all s = sum_by count_within_domain s.variables
 
--- so many passes at most over all constraints; what changes has fewer values
+-- what goes on behind a pass that left this state, where it changed something
+abbrev pub until_same : Bool → State → (State → Option State) → Option State
+until_same true r more = Some r
+until_same false r more = more r
+
+-- so many passes at most over all constraints, until one takes no value
 unfoldable pub passes : ℕ → State → Option State
 passes zero s = Some s
-passes (suc k) s = option_and_then (λ r. cond (count_all r == count_all s) (Some r) (passes k r)) (runs_of s.constraints s)
+passes (suc k) s = option_and_then (λ r. until_same (count_all r == count_all s) r (passes k)) (runs_of s.constraints s)
 
--- the stable state; None where some domain is empty. Each pass but the last takes a value
+-- the stable state; None where some domain is empty. Each pass but the last takes a value, so no more of them are needed
 unfoldable pub stable_state : State → Option State
 stable_state s = passes (suc (count_all s)) s
 
@@ -97,13 +102,13 @@ abbrev pub settlement_by : State → State → Option State → Settlement
 settlement_by before s None = record { load = load_of_failure before s; left = None }
 settlement_by before s (Some r) = record { load = load before s r; left = Some (with_events before r) }
 
--- of the state in which a goal began and the one that it left
-abbrev pub settlement : State → State → Settlement
+-- of the state in which a goal began and the one that it left: a load, which stands above 0 in the trace alone, and the stable state with the activations that the goal's events make wait
+unfoldable pub settlement : State → State → Settlement
 settlement before s = settlement_by before s (stable_state s)
 
 abbrev pub answer_with : Option State → Trace State
 answer_with None = done
 answer_with (Some r) = one r
 
-abbrev pub settled : State → State → Trace State
+unfoldable pub settled : State → State → Trace State
 settled before s = loaded (settlement before s).load (answer_with (settlement before s).left)

@@ -1,7 +1,7 @@
 -- The laws of settling as a function.
 use Rattle.std.specs.Prelude.{◌≡◌, ℕ, ℤ, List, Some, None}
 use Rattle.pi_terms.specs.Tree.{Tree, Trees, int, atom, comp}
-use Rattle.pi_meaning.specs.Traces.Trace.{one}
+use Rattle.pi_traces.specs.Trace.{one}
 use Rattle.pi_constraints.specs.State.{State, IsState, next, bindings, followed}
 use Rattle.pi_settling.specs.Stable.{IsEmptied, IsStable}
 use Rattle.pi_settling.specs.SettlingLaws.{MaySettle, Settles}
