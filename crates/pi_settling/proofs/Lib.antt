@@ -26,6 +26,7 @@ pub mod SettleVariables
 pub mod SettleRuns
 pub mod SettleLemmas
 pub mod SettleKeeps
+pub mod SettleExamples
 pub mod StableLemmas
 pub mod UniqueLemmas
 pub mod EventLemmas

@@ -102,7 +102,7 @@ abbrev pub settlement_by : State → State → Option State → Settlement
 settlement_by before s None = record { load = load_of_failure before s; left = None }
 settlement_by before s (Some r) = record { load = load before s r; left = Some (with_events before r) }
 
--- of the state in which a goal began and the one that it left: a load, which stands above 0 in the trace alone, and the stable state with the activations that the goal's events make wait
+-- of the state in which a goal began and the one that it left
 unfoldable pub settlement : State → State → Settlement
 settlement before s = settlement_by before s (stable_state s)
 
@@ -110,5 +110,6 @@ abbrev pub answer_with : Option State → Trace State
 answer_with None = done
 answer_with (Some r) = one r
 
+-- the same as a trace
 unfoldable pub settled : State → State → Trace State
 settled before s = loaded (settlement before s).load (answer_with (settlement before s).left)
