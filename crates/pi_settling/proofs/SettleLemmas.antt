@@ -9,17 +9,17 @@ use Rattle.pi_constraints.specs.declared.constraint.Constraint.{Constraint}
 use Rattle.pi_constraints.proofs.DomainLemmas.{not_both}
 use Rattle.pi_constraints.specs.State.{State, IsState}
 use Rattle.pi_settling.specs.Stable.{IsEmptied, IsStable}
-use Rattle.pi_settling.specs.Settled.{loaded, IsSettled}
+use Rattle.pi_settling.specs.Settled.{loaded, with_events, IsSettled}
 use Rattle.pi_settling.specs.SettlingLaws.{MaySettle, Settles}
 use Rattle.pi_settling.specs.Run.{ChangesNothing}
 use Rattle.pi_settling.specs.Calm.{IsCalm}
-use Rattle.pi_settling.specs.Settle.{run_of, runs_of, count_all, until_same, passes, stable_state, settlement_by, answer_with, settlement, settled}
-use Rattle.pi_settling.specs.SettleLaws.{GivesTheStableState, FindsWhatIsEmptied, SettledSettles, CalmIsSettled}
+use Rattle.pi_settling.specs.Settle.{run_of, runs_of, count_all, until_same, passes, stable_state, Settlement, settlement_by, answer_with, settlement, settled}
+use Rattle.pi_settling.specs.SettleLaws.{GivesTheStableState, FindsWhatIsEmptied, GivesNoOther, FindsEachThatIsEmptied, SettledSettles, CalmIsSettled, LeavesTheStableState, LeavesNothing}
 use Rattle.pi_settling.proofs.RunLemmas.{IsBetween, between-start, between-run, lost-empties}
 use Rattle.pi_settling.proofs.SizeLemmas.{in-front, behind, front-or-behind, none-there}
 use Rattle.pi_settling.proofs.StableRuns.{AllChangeNothing, stable-when-done}
 use Rattle.pi_settling.proofs.LoadLemmas.{settling_twice_is_once}
-use Rattle.pi_settling.proofs.UniqueLemmas.{settled_is_one}
+use Rattle.pi_settling.proofs.UniqueLemmas.{stable_is_one, not_both_ways, settled_is_one}
 use Rattle.pi_settling.proofs.SettleRuns.{IsComputed, run-computed, run-fails, run-nothing}
 
 -- ---- one pass
@@ -143,6 +143,36 @@ gives_the_stable_state s r is may e = passes-end s (suc (count_all s)) s r is ma
 pub finds_what_is_emptied : FindsWhatIsEmptied
 unfolding stable_state
 finds_what_is_emptied s is may e = passes-fail s (suc (count_all s)) s is may (between-start s is may) (omega arith) e
+
+gives-no-other : (s r : State) (o : Option State) → IsState s → MaySettle s → IsStable s r → stable_state s ≡ o → stable_state s ≡ Some r
+gives-no-other s r None is may f e = absurd (not_both_ways s r (finds_what_is_emptied s is may e) f)
+gives-no-other s r (Some q) is may f e = e ∙ ap Some (stable_is_one s q r (gives_the_stable_state s q is may e) f)
+
+pub gives_no_other : GivesNoOther
+gives_no_other s r is may f = gives-no-other s r (stable_state s) is may f refl
+
+finds-each : (s : State) (o : Option State) → IsState s → MaySettle s → IsEmptied s → stable_state s ≡ o → stable_state s ≡ None
+finds-each s None is may f e = e
+finds-each s (Some q) is may f e = absurd (not_both_ways s q f (gives_the_stable_state s q is may e))
+
+pub finds_each_that_is_emptied : FindsEachThatIsEmptied
+finds_each_that_is_emptied s is may f = finds-each s (stable_state s) is may f refl
+
+left-by : (before s q : State) (o : Option State) → stable_state s ≡ o → (settlement_by before s o).left ≡ Some q → (r : State) × (stable_state s ≡ Some r) × (q ≡ with_events before r)
+left-by before s q None at e = absurd (cc)
+left-by before s q (Some r) at e = (r, at, let same : with_events before r ≡ q = cc in sym same)
+
+pub leaves_the_stable_state : LeavesTheStableState
+unfolding settlement
+leaves_the_stable_state before s q e = left-by before s q (stable_state s) refl e
+
+nothing-by : (before s : State) (o : Option State) → (settlement_by before s o).left ≡ None → o ≡ None
+nothing-by before s None e = refl
+nothing-by before s (Some r) e = absurd (cc)
+
+pub leaves_nothing : LeavesNothing
+unfolding settlement
+leaves_nothing before s e = nothing-by before s (stable_state s) e
 
 settles-by : (before s : State) (o : Option State) → IsState s → MaySettle s → stable_state s ≡ o → IsSettled before s (loaded (settlement_by before s o).load (answer_with (settlement_by before s o).left))
 settles-by before s None is may e = inl (finds_what_is_emptied s is may e, refl)
