@@ -1,12 +1,11 @@
 -- Small states that are settled by computing.
-use Rattle.std.specs.Prelude.{◌≡◌, ℕ, pos, negsuc, List, [], ◌∷◌, Option, Some, None, refl}
-use Rattle.std.specs.List.{list_any}
+use Rattle.std.specs.Prelude.{◌≡◌, ℕ, pos, negsuc, List, [], ◌∷◌, Some, None, refl}
 use Rattle.pi_terms.specs.Tree.{int}
 use Rattle.pi_constraints.specs.declared.constraint.Rel.{Rel}
 use Rattle.pi_constraints.specs.declared.constraint.Constraint.{Constraint}
 use Rattle.pi_constraints.specs.declared.constraint.Item.{Item}
 use Rattle.pi_constraints.specs.Domain.{has_value, numbers_from, values_of, overlap, shared, common}
-use Rattle.pi_constraints.specs.State.{State, Variable, within, bound, followed_for, followed}
+use Rattle.pi_constraints.specs.State.{Variable, within, bound, followed_for, followed}
 use Rattle.pi_traces.specs.Trace.{note, Load, one, done}
 use Rattle.pi_prop_spec.specs.Ends.{greatest_of}
 use Rattle.pi_prop_spec.specs.Places.{sum_places}

@@ -1,13 +1,13 @@
 -- What settling as a function keeps of every state: how many variables there are, and what they are bound to.
-use Rattle.std.specs.Prelude.{◌≡◌, ◌⊎◌, ℕ, zero, suc, ◌==◌, ◌<◌, ◌≤◌, ℤ, Bool, true, false, cond, List, [], ◌∷◌, length, filter, get_or, Option, Some, None, unwrap_or, option_map, option_and_then, refl}
-use Rattle.std.proofs.Common.{arith, sym, ◌∙◌, ap, subst, inl, inr}
-use Rattle.pi_terms.specs.Tree.{Tree, Trees, var, int, atom, comp}
+use Rattle.std.specs.Prelude.{◌≡◌, ◌⊎◌, ℕ, zero, suc, ◌==◌, ℤ, Bool, true, false, List, [], ◌∷◌, length, filter, get_or, Option, Some, None, unwrap_or, refl}
+use Rattle.std.proofs.Common.{sym, ◌∙◌, ap, subst, inl, inr}
+use Rattle.pi_terms.specs.Tree.{Tree, var, int, atom, comp}
 use Rattle.pi_terms.specs.Places.{held}
 use Rattle.pi_constraints.specs.declared.constraint.Constraint.{Constraint}
 use Rattle.pi_constraints.specs.Domain.{values_of}
 use Rattle.pi_constraints.specs.Value.{Bindings}
 use Rattle.pi_constraints.specs.State.{State, Variable, free, within, bound, binding, bindings, next, followed_for, followed}
-use Rattle.pi_constraints.proofs.StateLemmas.{variable, held_is, as_many}
+use Rattle.pi_constraints.proofs.StateLemmas.{held_is, as_many}
 use Rattle.pi_constraints.proofs.FollowLemmas.{IsNoVariable, followed_later}
 use Rattle.pi_settling.specs.Values.{domain_of_values}
 use Rattle.pi_settling.specs.Settle.{is_kept, integers_left, variable_with, variable_left, variables_left, with_variables, run_of, runs_of, count_all, until_same, passes, stable_state}
@@ -49,6 +49,7 @@ one-more p v w vs us e rest = record { count = ap suc rest.count; each = by; ite
     item : (k : ℕ) → binding (get_or (v ∷ vs) k free) ≡ None → IsItemNow (binding (get_or (w ∷ us) k free))
     item zero is = unbound-item p v w e is
     item (suc k) is = rest.items k is
+
     by : (k : ℕ) (t : Tree) → binding (get_or (v ∷ vs) k free) ≡ Some t → binding (get_or (w ∷ us) k free) ≡ Some t
     by zero t is = bound-stays p v w t e is
     by (suc k) t is = rest.each k t is

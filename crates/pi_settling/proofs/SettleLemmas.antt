@@ -1,19 +1,18 @@
 -- Settling as a function gives the stable state, or finds that there is none.
-use Rattle.std.specs.Prelude.{◌≡◌, ◌⊎◌, ℕ, zero, suc, ◌==◌, ◌<◌, ◌≤◌, Bool, true, false, cond, List, [], ◌∷◌, Contains, Option, Some, None, option_and_then, refl}
+use Rattle.std.specs.Prelude.{◌≡◌, ◌⊎◌, ℕ, zero, suc, ◌==◌, ◌<◌, ◌≤◌, Bool, true, false, List, [], ◌∷◌, Contains, Option, Some, None, option_and_then, refl}
 use Rattle.std.proofs.Common.{arith, sym, ◌∙◌, ap, subst, inl, inr}
-use Rattle.std.proofs.lemmas.Bool.{cases_Bool}
 use Rattle.std.proofs.lemmas.Bool.Decides.{Decides-eqb}
 use Rattle.std.proofs.lemmas.Option.{slice_get-get_or, option_and_then_some}
-use Rattle.pi_traces.specs.Trace.{Trace, one, done}
+use Rattle.pi_traces.specs.Trace.{one}
 use Rattle.pi_constraints.specs.declared.constraint.Constraint.{Constraint}
 use Rattle.pi_constraints.proofs.DomainLemmas.{not_both}
 use Rattle.pi_constraints.specs.State.{State, IsState}
 use Rattle.pi_settling.specs.Stable.{IsEmptied, IsStable}
 use Rattle.pi_settling.specs.Settled.{loaded, with_events, IsSettled}
-use Rattle.pi_settling.specs.SettlingLaws.{MaySettle, Settles}
+use Rattle.pi_settling.specs.SettlingLaws.{MaySettle}
 use Rattle.pi_settling.specs.Run.{ChangesNothing}
 use Rattle.pi_settling.specs.Calm.{IsCalm}
-use Rattle.pi_settling.specs.Settle.{run_of, runs_of, count_all, until_same, passes, stable_state, Settlement, settlement_by, answer_with, settlement, settled}
+use Rattle.pi_settling.specs.Settle.{run_of, runs_of, count_all, until_same, passes, stable_state, settlement_by, answer_with, settlement, settled}
 use Rattle.pi_settling.specs.SettleLaws.{GivesTheStableState, FindsWhatIsEmptied, GivesNoOther, FindsEachThatIsEmptied, SettledSettles, CalmIsSettled, LeavesTheStableState, LeavesNothing}
 use Rattle.pi_settling.proofs.RunLemmas.{IsBetween, between-start, between-run, lost-empties}
 use Rattle.pi_settling.proofs.SizeLemmas.{in-front, behind, front-or-behind, none-there}

@@ -1,5 +1,5 @@
 -- A run that is computed is a run, and where there is none the run fails.
-use Rattle.std.specs.Prelude.{◌≡◌, ◌↔◌, ◌⊎◌, ℕ, zero, suc, ◌==◌, ◌+◌, ◌<◌, ◌≤◌, ℤ, Bool, true, false, not, cond, IsTrue, List, [], ◌∷◌, length, filter, get_or, slice_get, sum_by, Contains, Option, Some, None, option_map, option_and_then, refl}
+use Rattle.std.specs.Prelude.{◌≡◌, ◌↔◌, ◌⊎◌, ℕ, ◌==◌, ◌+◌, ◌<◌, ◌≤◌, ℤ, Bool, true, false, not, cond, IsTrue, List, [], length, filter, get_or, Contains, Option, Some, None, option_map, refl}
 use Rattle.std.specs.Bool.{Decides}
 use Rattle.std.proofs.Common.{arith, sym, ◌∙◌, ap, subst, inl, inr}
 use Rattle.std.proofs.lemmas.Bool.{cases_Bool}
@@ -8,21 +8,21 @@ use Rattle.std.proofs.lemmas.Option.{slice_get-get_or}
 use Rattle.pi_constraints.specs.declared.constraint.Constraint.{Constraint}
 use Rattle.pi_constraints.specs.declared.constraint.Item.{Item}
 use Rattle.pi_constraints.specs.declared.domain.Span.{Span}
-use Rattle.pi_constraints.specs.Domain.{has_value, values_of, size_of}
+use Rattle.pi_constraints.specs.Domain.{has_value, values_of}
 use Rattle.pi_constraints.proofs.DomainLemmas.{not_both, values_lie_in_spans}
 use Rattle.pi_prop_spec.specs.Places.{places_of}
 use Rattle.pi_prop_spec.specs.Filter.{Leaves}
 use Rattle.pi_prop_spec.specs.Decided.{each_below, if_so, leaves}
 use Rattle.pi_prop_spec.proofs.DecidedTests.{if_so-decides, each_below-decides, each_below-fails}
 use Rattle.pi_prop_spec.proofs.DecidedLemmas.{leaves_is_decided}
-use Rattle.pi_constraints.specs.State.{State, Variable, free, within, domain_in, domain_of, next, IsState}
+use Rattle.pi_constraints.specs.State.{State, Variable, free, domain_in, domain_of, next, IsState}
 use Rattle.pi_constraints.proofs.StateLemmas.{variable, domain_good, state_variable}
 use Rattle.pi_settling.specs.Roots.{root_item, domain_or_all, given}
 use Rattle.pi_settling.specs.SettlingLaws.{MaySettle}
-use Rattle.pi_settling.specs.Narrowed.{NarrowsTo, left_free, left_bound, some_left, one_left, IsNarrowed}
-use Rattle.pi_settling.specs.Run.{given_at, ComesTo, KeptBy, IsRun, IsLost, integer_lost, variable_lost, Fails, ChangesNothing}
+use Rattle.pi_settling.specs.Narrowed.{NarrowsTo, left_free, left_bound, some_left, one_left}
+use Rattle.pi_settling.specs.Run.{given_at, ComesTo, KeptBy, IsRun, integer_lost, variable_lost, Fails, ChangesNothing}
 use Rattle.pi_settling.specs.Runs.{IsWoken}
-use Rattle.pi_settling.specs.Settle.{root_at, is_variable, is_kept, item_left, integers_left, variable_left, variables_left, with_variables, run_of, count_within_domain, count_all}
+use Rattle.pi_settling.specs.Settle.{root_at, is_variable, is_kept, item_left, integers_left, variables_left, with_variables, run_of, count_all}
 use Rattle.pi_settling.proofs.PlaceLemmas.{place_at}
 use Rattle.pi_settling.proofs.RunLemmas.{place-is, place-there, given-domains}
 use Rattle.pi_settling.proofs.StableRuns.{some-in}
@@ -145,11 +145,14 @@ is-so true e = refl
 is-so false e = absurd (cc)
 
 at-place : (s : State) (c : Constraint) (n : ℕ) (d : List Span) (k : ℕ) → IsState s → MaySettle s → Contains s.constraints c → domain_of s n ≡ Some d → ComesTo s c k (Item.Var n) → filter (is_kept s c n) (values_of d) ≡ [] → Fails s c
-at-place s c n d k is may posted has to e = (Item.Var n, variable_lost k n to (λ i h kept.
-    let good = domain_good s n d is has in
-    let here : IsTrue (has_value d i) = subst (λ (f : List Span). IsTrue (has_value f i)) (ap domain_or_all has) h in
-    let there : Contains (filter (is_kept s c n) (values_of d)) i = to-filter (is_kept s c n) (values_of d) i ((values_lie_in_spans d good.0 i).0 here) ((kept-decides s c n i is may posted).1 kept) in
-    none-there i (subst (λ (is : List ℤ). Contains is i) e there)))
+at-place s c n d k is may posted has to e = (
+  Item.Var n,
+  variable_lost k n to (λ i h kept.
+      let good = domain_good s n d is has in
+      let here : IsTrue (has_value d i) = subst (λ (f : List Span). IsTrue (has_value f i)) (ap domain_or_all has) h in
+      let there : Contains (filter (is_kept s c n) (values_of d)) i = to-filter (is_kept s c n) (values_of d) i ((values_lie_in_spans d good.0 i).0 here) ((kept-decides s c n i is may posted).1 kept) in
+      none-there i (subst (λ (is : List ℤ). Contains is i) e there)),
+)
 
 variable-left-nothing : (s : State) (c : Constraint) (n : ℕ) (d : List Span) → IsState s → MaySettle s → Contains s.constraints c → domain_of s n ≡ Some d → filter (is_kept s c n) (values_of d) ≡ [] → Fails s c
 variable-left-nothing s c n d is may posted has e = elim (cases_Bool (each_below (length (places_of c)) (λ k. not (is_variable n (root_at s c k))))) [

@@ -1,20 +1,19 @@
 -- Variables that are left some of their values, as `Settle` computes them.
-use Rattle.std.specs.Prelude.{◌≡◌, ◌↔◌, ◌⊎◌, ℕ, zero, suc, ◌+◌, ◌<◌, ◌≤◌, ℤ, ◌<ℤ◌, Bool, true, false, ◌&&◌, IsTrue, List, [], ◌∷◌, length, filter, get_or, sum_by, AllPairs, Contains, Option, Some, None, option_map, option_and_then, refl}
+use Rattle.std.specs.Prelude.{◌≡◌, ◌↔◌, ◌⊎◌, ℕ, zero, suc, ◌+◌, ◌<◌, ◌≤◌, ℤ, ◌<ℤ◌, Bool, true, IsTrue, List, [], ◌∷◌, length, filter, get_or, sum_by, AllPairs, Contains, Option, Some, None, option_map, option_and_then, refl}
 use Rattle.std.specs.List.{list_any}
 use Rattle.std.specs.Ordering.{int_eq}
 use Rattle.std.proofs.Common.{arith, sym, ◌∙◌, ap, subst, inl, inr}
-use Rattle.std.proofs.lemmas.Bool.{cases_Bool, and_parts, and_from}
-use Rattle.std.proofs.lemmas.Bool.Decides.{Decides-int_eq}
+use Rattle.std.proofs.lemmas.Bool.{and_parts, and_from}
 use Rattle.std.proofs.lemmas.Int.{ints}
+use Rattle.std.proofs.lemmas.List.Elements.{All-contains, filter_passes}
 use Rattle.std.proofs.lemmas.List.Kept.{AllPairs-filter}
 use Rattle.std.proofs.lemmas.List.Sums.{sum_by-cons}
-use Rattle.pi_terms.specs.Tree.{Tree, int}
+use Rattle.pi_terms.specs.Tree.{int}
 use Rattle.pi_constraints.specs.declared.domain.Span.{Span}
-use Rattle.pi_constraints.specs.declared.domain.TheConstants.{MAX_VALUE}
 use Rattle.pi_constraints.specs.Domain.{IsDomain, has_value, values_of, size_of}
-use Rattle.pi_constraints.proofs.DomainLemmas.{not_both, values_lie_in_spans, values_ascend, values_are_within_bounds}
-use Rattle.pi_constraints.specs.State.{Variable, free, within, bound, binding, IsVariable}
-use Rattle.pi_prop_spec.proofs.DecidedTests.{list_any-decides, le-decides}
+use Rattle.pi_constraints.proofs.DomainLemmas.{values_lie_in_spans, values_ascend, values_are_within_bounds}
+use Rattle.pi_constraints.proofs.JoinLemmas.{listed, from_listed}
+use Rattle.pi_constraints.specs.State.{Variable, free, within, bound, IsVariable}
 use Rattle.pi_settling.specs.Values.{can_have, domain_of_values}
 use Rattle.pi_settling.specs.Narrowed.{NarrowsTo, left_free, left_bound, some_left, one_left}
 use Rattle.pi_settling.specs.Settle.{variable_with, variable_left, variables_left, count_within_domain}
@@ -22,13 +21,6 @@ use Rattle.pi_settling.proofs.ValueLemmas.{values_are_a_domain, values_are_its_o
 use Rattle.pi_settling.proofs.SizeLemmas.{size-within, same-or-lost, size-lost, in-front, behind, front-or-behind, none-there, from-filter, to-filter}
 
 -- ---- the values that are left
-
-filter-passes : {X : Type 0} (p : X → Bool) (xs : List X) (x : X) → Contains (filter p xs) x → p x ≡ true
-filter-passes p [] x h = absurd (none-there x h)
-filter-passes p (y ∷ ys) x h = elim (cases_Bool (p y)) [
-  | inl is ↦ elim (front-or-behind y x (filter p ys) (rw is at h)) [ inl e ↦ subst (λ z. p z ≡ true) e is | inr c ↦ filter-passes p ys x c ]
-  | inr not ↦ filter-passes p ys x (rw not at h)
-]
 
 -- values that are those of a domain that are kept
 abbrev AreKept : (ℤ → Type 0) → List Span → List ℤ → Type 0
@@ -39,25 +31,17 @@ AllDiffer is = AllPairs (λ i j. i <ℤ j) is
 
 filter-keeps : (p : ℤ → Bool) (d : List Span) → IsDomain d → AreKept (λ n. IsTrue (p n)) d (filter p (values_of d))
 filter-keeps p d up n = (
-  λ c. ((values_lie_in_spans d up n).1 (from-filter p (values_of d) n c), filter-passes p (values_of d) n c),
+  λ c. ((values_lie_in_spans d up n).1 (from-filter p (values_of d) n c), All-contains (λ i. p i ≡ true) (filter p (values_of d)) n (filter_passes p (values_of d)) c),
   λ h. to-filter p (values_of d) n ((values_lie_in_spans d up n).0 h.0) h.1,
 )
 
 bounds-can : (n : ℤ) (d : List Span) → IsDomain d → IsTrue (has_value d n) → can_have n ≡ true
 bounds-can n d up h = let b = values_are_within_bounds d n up h in grind (arith, ints, b.0, b.1)
 
-int_eq-decides : (n m : ℤ) → (int_eq n m ≡ true → n ≡ m) × (n ≡ m → int_eq n m ≡ true)
-int_eq-decides n m = Decides-int_eq n m
-
-among : (is : List ℤ) (n : ℤ) → (list_any (int_eq n) is ≡ true → Contains is n) × (Contains is n → list_any (int_eq n) is ≡ true)
-among is n =
-    let both = list_any-decides (int_eq n) (λ m. n ≡ m) (λ m. int_eq-decides n m) is in
-    (λ e. let w = both.0 e in subst (Contains is) (sym w.2) w.1, λ c. both.1 (n, c, refl))
-
 has-values : (K : ℤ → Type 0) (d : List Span) (is : List ℤ) → IsDomain d → AreKept K d is → (n : ℤ) → IsTrue (has_value (domain_of_values is) n) ↔ (IsTrue (has_value d n) × K n)
 has-values K d is up kept n = (
-  λ h. (kept n).0 ((among is n).0 (and_parts (can_have n) (list_any (int_eq n) is) (sym (values_are_its_own is n) ∙ h)).1),
-  λ h. values_are_its_own is n ∙ and_from (can_have n) (list_any (int_eq n) is) (bounds-can n d up h.0) ((among is n).1 ((kept n).1 h)),
+  λ h. (kept n).0 (listed is n (and_parts (can_have n) (list_any (int_eq n) is) (sym (values_are_its_own is n) ∙ h)).1),
+  λ h. values_are_its_own is n ∙ and_from (can_have n) (list_any (int_eq n) is) (bounds-can n d up h.0) (from_listed is n ((kept n).1 h)),
 )
 
 -- a domain in which two values differ has two or more

@@ -7,7 +7,7 @@ use Rattle.pi_settling.specs.Stable.{IsEmptied, IsStable}
 use Rattle.pi_settling.specs.SettlingLaws.{MaySettle, Settles}
 use Rattle.pi_settling.specs.Calm.{IsCalm}
 use Rattle.pi_settling.specs.Settled.{with_events}
-use Rattle.pi_settling.specs.Settle.{stable_state, Settlement, settlement, settled}
+use Rattle.pi_settling.specs.Settle.{stable_state, settlement, settled}
 
 -- of a state that may settle it gives the stable state, or finds that there is none
 abbrev pub GivesTheStableState : Type 0
