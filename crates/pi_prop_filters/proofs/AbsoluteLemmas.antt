@@ -2,11 +2,12 @@
 use Rattle.std.specs.Prelude.{◌≡◌, ◌↔◌, ◌≤◌, ◌^◌, nat_abs, ◌&&◌, IsTrue, List, length, ℤ, pos, ◌-ℤ◌, neg_ℤ, ◌≤ℤ◌, int_le, refl}
 use Rattle.std.specs.Int.{int_max, w128}
 use Rattle.std.proofs.Common.{arith, sym, ◌∙◌, ap, subst, to_z, of_z}
-use Rattle.std.proofs.lemmas.Int.{ints, clamps, by_lt_z}
+use Rattle.std.proofs.lemmas.Int.{ints}
 use Rattle.pi_constraints.specs.declared.domain.Span.{Span}
 use Rattle.pi_prop_spec.specs.Ends.{least_of, greatest_of}
 use Rattle.pi_prop_spec.specs.Places.{domain_at}
-use Rattle.pi_prop_spec.specs.Rules.{magnitude, AbsoluteKeeps}
+use Rattle.pi_prop_spec.specs.Rules.{AbsoluteKeeps}
+use Rattle.pi_prop_spec.proofs.MagnitudeLemmas.{least_size, greatest_size, least_from, greatest_from}
 use Rattle.pi_prop_places.specs.Changes.{IsCutAt, IsKeptAt, AreFiltered}
 use Rattle.pi_prop_places.proofs.KeepLemmas.{keep_cut, KeptBefore, kept_none, kept_more, kept_all}
 use Rattle.pi_constraints.specs.Domain.{IsWithinBounds}
@@ -14,38 +15,6 @@ use Rattle.pi_prop_places.proofs.FitLemmas.{negative_back, max_small}
 use Rattle.pi_prop_filters.proofs.BitLemmas.{back}
 use Rattle.pi_prop_filters.proofs.CornerLemmas.{value_small, value_back}
 use Rattle.pi_prop_filters.proofs.ProductLemmas.{between_test}
-
--- ---- the absolute values of the numbers between two ends
-
-least_size : (lo hi u n : ℤ) → lo ≤ℤ u → u ≤ℤ hi → magnitude u ≤ℤ n → int_max (int_max lo (neg_ℤ hi)) (pos 0) ≤ℤ n
-least_size lo hi u n h k m = omega (arith, ints, clamps)
-
-greatest_size : (lo hi u n : ℤ) → lo ≤ℤ u → u ≤ℤ hi → n ≤ℤ magnitude u → n ≤ℤ int_max (neg_ℤ lo) hi
-greatest_size lo hi u n h k m = omega (arith, ints, clamps)
-
-size_at_most : (u n : ℤ) → u ≤ℤ n → neg_ℤ u ≤ℤ n → magnitude u ≤ℤ n
-size_at_most u n h k = omega (arith, ints)
-
-abbrev Between : ℤ → ℤ → ℤ → Type 0
-Between lo hi u = (lo ≤ℤ u) × (u ≤ℤ hi)
-
-least_from : (lo hi n : ℤ) → lo ≤ℤ hi → int_max (int_max lo (neg_ℤ hi)) (pos 0) ≤ℤ n → (u : ℤ) × Between lo hi u × (magnitude u ≤ℤ n)
-least_from lo hi n o h = by_lt_z (pos 0) lo
-    (λ l. (lo, (omega (arith, ints), o), size_at_most lo n (omega (arith, ints, clamps)) (omega (arith, ints, clamps))))
-    (λ l. by_lt_z hi (pos 0)
-    (λ m. (hi, (o, omega (arith, ints)), size_at_most hi n (omega (arith, ints, clamps)) (omega (arith, ints, clamps))))
-    (λ m. (pos 0, (l, m), omega (arith, ints, clamps))))
-
-least_below_size : (u : ℤ) → u ≤ℤ magnitude u
-least_below_size u = omega (arith, ints)
-
-negative_below_size : (u : ℤ) → neg_ℤ u ≤ℤ magnitude u
-negative_below_size u = omega (arith, ints)
-
-greatest_from : (lo hi n : ℤ) → lo ≤ℤ hi → n ≤ℤ int_max (neg_ℤ lo) hi → (u : ℤ) × Between lo hi u × (n ≤ℤ magnitude u)
-greatest_from lo hi n o h = by_lt_z hi n
-    (λ l. (lo, (omega (arith, ints), o), let m = negative_below_size lo in omega (arith, ints, clamps)))
-    (λ l. (hi, (o, omega (arith, ints)), let m = least_below_size hi in omega (arith, ints)))
 
 -- ---- by numbers of 128 bits
 

@@ -1,12 +1,10 @@
 -- The rules of filters as tests: they decide what they say.
 use Rattle.std.specs.Prelude.{◌≡◌, ◌≢◌, ℕ, zero, suc, ◌==◌, ◌<◌, ◌≤◌, nat_le, Bool, true, not, cond, ◌&&◌, ◌||◌, IsTrue, List, [], ◌∷◌, length, ℤ, pos, neg_ℤ, ◌-ℤ◌, ◌*ℤ◌, ◌≤ℤ◌, int_le, refl}
 use Rattle.std.specs.Bool.{Decides}
-use Rattle.std.specs.Int.{int_max}
 use Rattle.std.specs.Ordering.{int_eq}
 use Rattle.std.proofs.Common.{arith, sym, ◌∙◌, subst}
 use Rattle.std.proofs.lemmas.Bool.{and_parts, and_from}
 use Rattle.std.proofs.lemmas.Bool.Decides.{Decides-eqb, Decides-int_eq, Decides-like, Decides-not, Decides-and}
-use Rattle.std.proofs.lemmas.Int.{ints, clamps, by_lt_z}
 use Rattle.pi_constraints.specs.declared.constraint.Rel.{Rel}
 use Rattle.pi_constraints.specs.declared.domain.Span.{Span}
 use Rattle.pi_constraints.specs.Domain.{IsDomain, has_value, common}
@@ -14,9 +12,10 @@ use Rattle.pi_constraints.proofs.CommonLemmas.{IsDomain-common, has_value-common
 use Rattle.pi_prop_spec.specs.Ends.{least_of, greatest_of, IsBetween, IsFixed, IsFixedTo}
 use Rattle.pi_prop_spec.specs.Places.{domain_at}
 use Rattle.pi_prop_spec.specs.Sums.{least_with, negated, AtMostKeeps, EqualKeeps, AreOthersFixed, UnequalKeeps, SumKeeps, OppositeKeeps}
-use Rattle.pi_prop_spec.specs.Rules.{DifferentKeeps, ShareAValue, ElementKeeps, least_corner, greatest_corner, FactorKeeps, ProductKeeps, magnitude, AbsoluteKeeps}
+use Rattle.pi_prop_spec.specs.Rules.{DifferentKeeps, ShareAValue, ElementKeeps, least_corner, greatest_corner, FactorKeeps, ProductKeeps, AbsoluteKeeps}
 use Rattle.pi_prop_spec.specs.Decided.{if_so, is_empty, is_fixed, is_fixed_to, is_between, at_most_keeps, equal_keeps, are_others_fixed, unequal_keeps, sum_keeps, opposite_keeps, different_keeps, is_inside, share_a_value, index_keeps, value_keeps, element_keeps, factor_keeps, product_keeps, least_magnitude, greatest_magnitude, absolute_keeps}
 use Rattle.pi_prop_spec.proofs.EndLemmas.{least-has, not_empty}
+use Rattle.pi_prop_spec.proofs.MagnitudeLemmas.{least_size, greatest_size, least_from, greatest_from}
 use Rattle.pi_prop_spec.proofs.DecidedTests.{le-decides, nat_le-decides, if_so-decides, unless-decides, cond-decides, each_below-decides, some_below-decides}
 
 -- ---- domains
@@ -172,36 +171,6 @@ product-decides ds k n =
     (if_so-decides (k == 2) second (Decides-eqb k 2) (λ e. factor-decides (domain_at ds 0) (domain_at ds 1) n))))
 
 -- ---- Absolute
-
-least_size : (lo hi u n : ℤ) → lo ≤ℤ u → u ≤ℤ hi → magnitude u ≤ℤ n → int_max (int_max lo (neg_ℤ hi)) (pos 0) ≤ℤ n
-least_size lo hi u n h k m = omega (arith, ints, clamps)
-
-greatest_size : (lo hi u n : ℤ) → lo ≤ℤ u → u ≤ℤ hi → n ≤ℤ magnitude u → n ≤ℤ int_max (neg_ℤ lo) hi
-greatest_size lo hi u n h k m = omega (arith, ints, clamps)
-
-size_at_most : (u n : ℤ) → u ≤ℤ n → neg_ℤ u ≤ℤ n → magnitude u ≤ℤ n
-size_at_most u n h k = omega (arith, ints)
-
-below_size : (u : ℤ) → u ≤ℤ magnitude u
-below_size u = omega (arith, ints)
-
-negative_below_size : (u : ℤ) → neg_ℤ u ≤ℤ magnitude u
-negative_below_size u = omega (arith, ints)
-
-abbrev Within : ℤ → ℤ → ℤ → Type 0
-Within lo hi u = (lo ≤ℤ u) × (u ≤ℤ hi)
-
-least_from : (lo hi n : ℤ) → lo ≤ℤ hi → int_max (int_max lo (neg_ℤ hi)) (pos 0) ≤ℤ n → (u : ℤ) × Within lo hi u × (magnitude u ≤ℤ n)
-least_from lo hi n o h = by_lt_z (pos 0) lo
-    (λ l. (lo, (omega (arith, ints), o), size_at_most lo n (omega (arith, ints, clamps)) (omega (arith, ints, clamps))))
-    (λ l. by_lt_z hi (pos 0)
-    (λ m. (hi, (o, omega (arith, ints)), size_at_most hi n (omega (arith, ints, clamps)) (omega (arith, ints, clamps))))
-    (λ m. (pos 0, (l, m), omega (arith, ints, clamps))))
-
-greatest_from : (lo hi n : ℤ) → lo ≤ℤ hi → n ≤ℤ int_max (neg_ℤ lo) hi → (u : ℤ) × Within lo hi u × (n ≤ℤ magnitude u)
-greatest_from lo hi n o h = by_lt_z hi n
-    (λ l. (lo, (omega (arith, ints), o), let m = negative_below_size lo in omega (arith, ints, clamps)))
-    (λ l. (hi, (o, omega (arith, ints)), let m = below_size hi in omega (arith, ints)))
 
 pub absolute-decides : (ds : List (List Span)) (k : ℕ) (n : ℤ) → least_of (domain_at ds 1) ≤ℤ greatest_of (domain_at ds 1) → Decides (absolute_keeps ds k n) (AbsoluteKeeps ds k n)
 absolute-decides ds k n o =

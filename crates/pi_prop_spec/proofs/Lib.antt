@@ -15,6 +15,7 @@ pub mod GrowLemmas
 pub mod LimitExamples
 pub mod LimitLemmas
 pub mod ListLemmas
+pub mod MagnitudeLemmas
 pub mod NumberLemmas
 pub mod OperandLemmas
 pub mod PlaceLemmas

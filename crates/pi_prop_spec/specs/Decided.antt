@@ -41,8 +41,12 @@ is_fixed d = int_eq (least_of d) (greatest_of d)
 abbrev pub is_fixed_to : List Span → ℤ → Bool
 is_fixed_to d n = int_eq (least_of d) n && int_eq (greatest_of d) n
 
+-- n lies from a to b
+abbrev pub is_inside : ℤ → ℤ → ℤ → Bool
+is_inside a b n = int_le a n && int_le n b
+
 abbrev pub is_between : List Span → ℤ → Bool
-is_between d n = int_le (least_of d) n && int_le n (greatest_of d)
+is_between d n = is_inside (least_of d) (greatest_of d) n
 
 -- ---- sums
 
@@ -74,9 +78,6 @@ opposite_keeps Rel.AtMost terms constant ds k n = at_most_keeps (negated terms) 
 abbrev pub different_keeps : List (List Span) → ℕ → ℤ → Bool
 different_keeps ds k n = each_below (length ds) (λ j. j == k || not (is_fixed_to (domain_at ds j) n))
 
-abbrev pub is_inside : ℤ → ℤ → ℤ → Bool
-is_inside a b n = int_le a n && int_le n b
-
 -- an interval has room for the places within it, and where they fill it n isn't one of its numbers, unless the place is one of them
 abbrev pub interval_keeps : ℤ → ℤ → List (List Span) → ℕ → ℤ → Bool
 interval_keeps a b ds k n =
@@ -93,7 +94,7 @@ intervals_keep ds k n = each_below (length ds) (λ i. each_below (length ds) (λ
 abbrev pub distinct_keeps : List (List Span) → ℕ → ℤ → Bool
 distinct_keeps ds k n = different_keeps ds k n && intervals_keep ds k n
 
--- ---- Element, with so many items: the index is at place 0, item i at place i, and the value behind them
+-- ---- Element, with so many items: the index is at place 0, item i at place i, and the value after them
 
 abbrev pub share_a_value : List Span → List Span → Bool
 share_a_value d e = not (is_empty (common d e))

@@ -1,4 +1,4 @@
--- Settling as a function: the stable domains by runs of all constraints in turn, over and over until nothing changes. It says what `Settled` says of a state that may settle. In what order
+-- Settling as a function: the stable domains by runs of all constraints in turn, over and over until nothing changes. Of a state that may settle it makes what `Settled` says. In what order
 -- the queue of a store runs constraints isn't told here, and need not be: a state has one stable state at most. (Own.)
 use Rattle.std.specs.Prelude.{ℕ, zero, suc, ◌==◌, Bool, true, false, cond, List, [], ◌∷◌, length, filter, get_or, sum_by, Option, Some, None, option_map, option_and_then, ℤ, pos}
 use Rattle.pi_terms.specs.Tree.{int}
@@ -77,7 +77,7 @@ count_within_domain (bound t) = 0
 abbrev pub count_all : State → ℕ
 count_all s = sum_by count_within_domain s.variables
 
--- what goes on behind a pass that left this state, where it changed something
+-- what goes on after a pass that left this state, where it changed something
 abbrev pub until_same : Bool → State → (State → Option State) → Option State
 until_same true r more = Some r
 until_same false r more = more r
@@ -87,7 +87,7 @@ unfoldable pub passes : ℕ → State → Option State
 passes zero s = Some s
 passes (suc k) s = option_and_then (λ r. until_same (count_all r == count_all s) r (passes k)) (runs_of s.constraints s)
 
--- the stable state; None where some domain is empty. Each pass but the last takes a value, so no more of them are needed
+-- the stable state; None where some domain is empty. Each pass but the last takes a value, so one more than there are values is enough
 unfoldable pub stable_state : State → Option State
 stable_state s = passes (suc (count_all s)) s
 
@@ -106,6 +106,7 @@ settlement_by before s (Some r) = record { load = load before s r; left = Some (
 unfoldable pub settlement : State → State → Settlement
 settlement before s = settlement_by before s (stable_state s)
 
+-- the state as the one answer, or no answer
 abbrev pub answer_with : Option State → Trace State
 answer_with None = done
 answer_with (Some r) = one r

@@ -31,7 +31,7 @@ SettledSettles = Settles settled
 abbrev pub CalmIsSettled : Type 0
 CalmIsSettled = (s : State) → IsCalm s → settled s s ≡ one s
 
--- what a settlement leaves is the stable state, with the activations of the goal's events behind those that wait
+-- what a settlement leaves is the stable state, with the activations of the goal's events after those that wait
 abbrev pub LeavesTheStableState : Type 0
 LeavesTheStableState = (before s q : State) → (settlement before s).left ≡ Some q → (r : State) × (stable_state s ≡ Some r) × (q ≡ with_events before r)
 
