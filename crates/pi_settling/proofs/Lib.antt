@@ -32,3 +32,6 @@ pub mod LoadLemmas
 pub mod AnswerLemmas
 pub mod SettlingExamples
 pub mod StableExample
+pub mod CalmItems
+pub mod CalmLemmas
+pub mod CalmUnify

@@ -1,0 +1,33 @@
+//! Laws of calm states.
+ghost use Rattle.pi_settling.specs.CalmLaws.{EmptyIsCalm, WithoutConstraintsIsCalm, StableIsCalm, CalmGoesByVariables, NewVariablesKeepCalm, EvaluationMakesVariables, EvaluationOfAllMakesVariables, EvaluationKeepsCalm, EvaluationOfAllKeepsCalm, CalmIsStable, CalmIsSettled, NewVariablesAreSettled, WithoutConstraintsIsSettled, UnifiedMaySettle};
+
+/// The empty state is calm, one without constraints, and each stable state. Whether one is calm goes by its variables and its constraints alone.
+pub fn states_are_calm()
+    ensures empty { EmptyIsCalm }
+    ensures bare { WithoutConstraintsIsCalm }
+    ensures stable { StableIsCalm }
+    ensures variables { CalmGoesByVariables }
+{}
+
+/// New variables keep a state calm, and evaluation makes new variables alone.
+pub fn evaluation_keeps_calm()
+    ensures new { NewVariablesKeepCalm }
+    ensures makes { EvaluationMakesVariables }
+    ensures makes_all { EvaluationOfAllMakesVariables }
+    ensures term { EvaluationKeepsCalm }
+    ensures terms { EvaluationOfAllKeepsCalm }
+{}
+
+/// A calm state is its own stable state, and settling it from itself, or from before its last variables were made, adds nothing.
+/// Without constraints and agents settling adds nothing to any state.
+pub fn settling_adds_nothing()
+    ensures stable { CalmIsStable }
+    ensures settled { CalmIsSettled }
+    ensures new { NewVariablesAreSettled }
+    ensures bare { WithoutConstraintsIsSettled }
+{}
+
+/// What a unification leaves may settle where the state before might.
+pub fn unification_keeps_settling()
+    ensures settles { UnifiedMaySettle }
+{}
