@@ -35,3 +35,6 @@ pub mod StableExample
 pub mod CalmItems
 pub mod CalmLemmas
 pub mod CalmUnify
+pub mod CalmFollowed
+pub mod CalmGoals
+pub mod CalmReads

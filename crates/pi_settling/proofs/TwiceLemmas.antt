@@ -71,7 +71,7 @@ stable-items s r a f n is = item_by (bindings r) n a (at_held r n (elim (less_or
 
 -- ---- the domains that are left
 
-all-domain : IsDomain all_values
+pub all-domain : IsDomain all_values
 unfolding AscendFrom
 all-domain = (omega (arith, ints), omega (arith, ints), omega (arith, ints), tt)
 

@@ -1,5 +1,5 @@
 //! Laws of calm states.
-ghost use Rattle.pi_settling.specs.CalmLaws.{EmptyIsCalm, WithoutConstraintsIsCalm, StableIsCalm, CalmGoesByVariables, NewVariablesKeepCalm, EvaluationMakesVariables, EvaluationOfAllMakesVariables, EvaluationKeepsCalm, EvaluationOfAllKeepsCalm, CalmIsStable, CalmIsSettled, NewVariablesAreSettled, WithoutConstraintsIsSettled, UnifiedMaySettle};
+ghost use Rattle.pi_settling.specs.CalmLaws.{EmptyIsCalm, WithoutConstraintsIsCalm, StableIsCalm, CalmGoesByVariables, NewVariablesKeepCalm, EvaluationMakesVariables, EvaluationOfAllMakesVariables, EvaluationKeepsCalm, EvaluationOfAllKeepsCalm, CalmIsStable, CalmIsSettled, NewVariablesAreSettled, WithoutConstraintsIsSettled, UnifiedMaySettle, WithinMaySettle, NotinMaySettle, StableKeepsFollowed, SettledKeepsFollowed, WithinKeepsFollowed, NotinKeepsFollowed, ConfinedKeepsFollowed, ConstraintsKeepFollowed};
 
 /// The empty state is calm, one without constraints, and each stable state. Whether one is calm goes by its variables and its constraints alone.
 pub fn states_are_calm()
@@ -27,7 +27,20 @@ pub fn settling_adds_nothing()
     ensures bare { WithoutConstraintsIsSettled }
 {}
 
-/// What a unification leaves may settle where the state before might.
-pub fn unification_keeps_settling()
-    ensures settles { UnifiedMaySettle }
+/// What a unification and the goals of constraints leave may settle where the state before might, and agents and what waits are as they were.
+pub fn goals_keep_settling()
+    ensures unified { UnifiedMaySettle }
+    ensures within { WithinMaySettle }
+    ensures notin { NotinMaySettle }
+{}
+
+/// What a term is followed to stays where that is no variable, in every state: by settling, by the goals of constraints, and by
+/// what these do to a state.
+pub fn followed_terms_stay()
+    ensures stable { StableKeepsFollowed }
+    ensures settled { SettledKeepsFollowed }
+    ensures within { WithinKeepsFollowed }
+    ensures notin { NotinKeepsFollowed }
+    ensures confined { ConfinedKeepsFollowed }
+    ensures constraints { ConstraintsKeepFollowed }
 {}

@@ -1,0 +1,12 @@
+use Rattle.pi_settling.proofs.CalmUnify.{unified_may_settle}
+use Rattle.pi_settling.proofs.CalmGoals.{within_may_settle, notin_may_settle}
+use Rattle.pi_settling.proofs.laws.calm.goals_keep_settling.Goals as goal
+
+pub returns-clause-unified : goal.returns-clause-unified
+returns-clause-unified c = unified_may_settle
+
+pub returns-clause-within : goal.returns-clause-within
+returns-clause-within c = within_may_settle
+
+pub returns-clause-notin : goal.returns-clause-notin
+returns-clause-notin c = notin_may_settle
