@@ -253,9 +253,6 @@ pub total-reads : (Q : ℕ → Type 0) (xs : Operands) → ReadsItems Q xs → R
 unfolding read_operand
 total-reads Q xs h = h.onto (of_number (pos 0)) (number-only Q (pos 0))
 
-pub no-operand-reads : (Q : ℕ → Type 0) (x : Operand) (r : Refusal) → read_operand x ≡ refuses r → ReadsOperand Q x
-no-operand-reads Q x r e = subst (ReadsSum Q) (sym e) (refuses-reads Q (SumOnly Q) r)
-
 pub no-items-read : (Q : ℕ → Type 0) → ReadsItems Q no_operands
 unfolding read_operand
 no-items-read Q = record { onto = λ u p. gives-reads Q (SumOnly Q) u p }
@@ -272,7 +269,7 @@ item-reads Q x xs h g = record {
 abbrev pub Anything : Unit {0} → Type 0
 Anything u = ⊤
 
-abbrev StandingOnly : (ℕ → Type 0) → Standing → Type 0
+abbrev pub StandingOnly : (ℕ → Type 0) → Standing → Type 0
 StandingOnly Q w = SumOnly Q w.sum
 
 apart-only : (Q : ℕ → Type 0) (c : Comparison) (u v : Sum) → SumOnly Q u → SumOnly Q v → SumOnly Q (sides_apart c u v)
@@ -303,7 +300,7 @@ relation-reads Q c x y h g =
 sum-reads : (Q : ℕ → Type 0) {A : Type 0} (Good : A → Type 0) (rel : Rel) (u : Sum) (r : Reading A) → SumOnly Q u → Reads Q Good r → Reads Q Good (posting (linear rel u) r)
 sum-reads Q Good rel u r h g = posting-reads Q Good (linear rel u) r (linear-only Q rel u h) g
 
-done-reads : (Q : ℕ → Type 0) → Reads Q Anything (gives tt)
+pub done-reads : (Q : ℕ → Type 0) → Reads Q Anything (gives tt)
 done-reads Q = gives-reads Q Anything tt tt
 
 never-reads : (Q : ℕ → Type 0) → Reads Q Anything posts_never
@@ -323,6 +320,10 @@ standing-reads Q rel u h = posts-by Q u.terms rel u h
 
 abbrev pub ReadsItem : (ℕ → Type 0) → Reading Item → Type 0
 ReadsItem Q r = Reads Q (ItemOnly Q) r
+
+-- an item that is to be 1
+pub standing-item : (Q : ℕ → Type 0) (x : Item) → ItemOnly Q x → Reads Q Anything (posts_standing Rel.Equal (difference (of_item x) (of_number (pos 1))))
+standing-item Q x p = standing-reads Q Rel.Equal (difference (of_item x) (of_number (pos 1))) (difference-only Q (of_item x) (of_number (pos 1)) (item-only Q x p) (number-only Q (pos 1)))
 
 pub truth-variable-reads : (Q : ℕ → Type 0) (n : ℕ) → Q n → ReadsItem Q (truth_variable_is n)
 truth-variable-reads Q n q =

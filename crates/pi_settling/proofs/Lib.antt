@@ -38,3 +38,4 @@ pub mod CalmUnify
 pub mod CalmFollowed
 pub mod CalmGoals
 pub mod CalmReads
+pub mod CalmTerms
