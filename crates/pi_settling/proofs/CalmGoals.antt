@@ -105,10 +105,20 @@ fixed-made s n v is may made none fixed =
 abbrev with_all : State → List Variable → State
 with_all s vs = record { variables = vs; constraints = s.constraints; agents = s.agents; waiting = s.waiting }
 
+-- a number past the last variable is that of none
+past-changed : (s : State) (n : ℕ) (v : Variable) → next s ≤ n → with_variable s n v ≡ s
+past-changed s n v past = ap (with_all s) (set_past s.variables n v past)
+
 pub fixed-after : (s : State) (n : ℕ) (v : Variable) → IsState s → MaySettle s → held (bindings s) n ≡ None → IsFixed v → MaySettleAfter s (with_variable s n v)
 fixed-after s n v is may none fixed = elim (less_or_not n (next s)) [
   | inl made ↦ fixed-made s n v is may made none fixed
-  | inr past ↦ subst (MaySettleAfter s) (sym (ap (with_all s) (set_past s.variables n v past))) (after-none s is may)
+  | inr past ↦ subst (MaySettleAfter s) (sym (past-changed s n v past)) (after-none s is may)
+]
+
+pub fixed-keeps-state : (s : State) (n : ℕ) (v : Variable) → IsState s → held (bindings s) n ≡ None → IsFixed v → IsState (with_variable s n v)
+fixed-keeps-state s n v is none fixed = elim (less_or_not n (next s)) [
+  | inl made ↦ fixed-state s n v is made none fixed
+  | inr past ↦ subst IsState (sym (past-changed s n v past)) is
 ]
 
 -- ---- values that are kept

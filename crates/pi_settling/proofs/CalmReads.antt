@@ -22,9 +22,13 @@ abbrev pub ItemOnly : (ℕ → Type 0) → Item → Type 0
 ItemOnly Q (Item.Var n) = Q n
 ItemOnly Q (Item.Int i) = ⊤
 
-unfoldable pub ItemsOnly : (ℕ → Type 0) → List Item → Type 0
-ItemsOnly Q [] = ⊤
-ItemsOnly Q (x ∷ xs) = ItemOnly Q x × ItemsOnly Q xs
+-- of each item
+unfoldable pub Each : (Item → Type 0) → List Item → Type 0
+Each P [] = ⊤
+Each P (x ∷ xs) = P x × Each P xs
+
+abbrev pub ItemsOnly : (ℕ → Type 0) → List Item → Type 0
+ItemsOnly Q xs = Each (ItemOnly Q) xs
 
 abbrev pub PlacesOnly : (ℕ → Type 0) → Constraint → Type 0
 PlacesOnly Q c = ItemsOnly Q (places_of c)
@@ -40,10 +44,10 @@ TermsOnly Q (t ∷ ts) = Q t.1 × TermsOnly Q ts
 abbrev pub SumOnly : (ℕ → Type 0) → Sum → Type 0
 SumOnly Q u = TermsOnly Q u.terms
 
-pub items-append : (Q : ℕ → Type 0) (xs ys : List Item) → ItemsOnly Q xs → ItemsOnly Q ys → ItemsOnly Q (xs ++ ys)
-unfolding ItemsOnly
-items-append Q [] ys h g = g
-items-append Q (x ∷ xs) ys h g = (h.0, items-append Q xs ys h.1 g)
+pub each-append : (P : Item → Type 0) (xs ys : List Item) → Each P xs → Each P ys → Each P (xs ++ ys)
+unfolding Each
+each-append P [] ys h g = g
+each-append P (x ∷ xs) ys h g = (h.0, each-append P xs ys h.1 g)
 
 all-behind : (Q : ℕ → Type 0) (cs : List Constraint) (c : Constraint) → AllOnly Q cs → PlacesOnly Q c → AllOnly Q (cs ++ c ∷ [])
 unfolding AllOnly
@@ -51,7 +55,7 @@ all-behind Q [] c h g = (g, tt)
 all-behind Q (d ∷ cs) c h g = (h.0, all-behind Q cs c h.1 g)
 
 places-only : (Q : ℕ → Type 0) (ts : List (ℤ × ℕ)) → TermsOnly Q ts → ItemsOnly Q (sum_places ts)
-unfolding TermsOnly ItemsOnly sum_places
+unfolding TermsOnly Each sum_places
 places-only Q [] h = tt
 places-only Q (t ∷ ts) h = (h.0, places-only Q ts h.1)
 
@@ -180,7 +184,7 @@ side-reads : (Q : ℕ → Type 0) (u : Sum) → SumOnly Q u → Reads Q Q (side 
 side-reads Q u h = side-by Q (variable_of u) u (its-variable Q u.terms u.constant h) h
 
 product-variable : (Q : ℕ → Type 0) (x y : ℕ) → Q x → Q y → ReadsSum Q (product_variable x y)
-unfolding ItemsOnly
+unfolding Each
 product-variable Q x y p q =
     then-reads Q Q (SumOnly Q) new_variable (λ z. posting (Constraint.Product (Item.Var z) (Item.Var x) (Item.Var y)) (gives (of_variable z))) (new-reads Q)
     (λ z r. posting-reads Q (SumOnly Q) (Constraint.Product (Item.Var z) (Item.Var x) (Item.Var y)) (gives (of_variable z)) (r, (p, (q, tt))) (gives-reads Q (SumOnly Q) (of_variable z) (variable-only Q z r)))
@@ -193,7 +197,7 @@ product-by Q None None u v h g =
     (λ x p. then-reads Q Q (SumOnly Q) (side v) (λ y. product_variable x y) (side-reads Q v g) (λ y q. product-variable Q x y p q))
 
 absolute-by : (Q : ℕ → Type 0) (c : Option ℤ) (u : Sum) → SumOnly Q u → ReadsSum Q (absolute_by c u)
-unfolding ItemsOnly
+unfolding Each
 absolute-by Q (Some c) u h = gives-reads Q (SumOnly Q) (of_number (magnitude c)) (number-only Q (magnitude c))
 absolute-by Q None u h =
     then-reads Q Q (SumOnly Q) (side u) absolute_variable (side-reads Q u h)
@@ -350,7 +354,7 @@ truth-number-reads Q (pos (suc (suc n))) = refuses-reads Q (ItemOnly Q) (not_a_c
 truth-number-reads Q (negsuc n) = refuses-reads Q (ItemOnly Q) (not_a_constraint (int (negsuc n)))
 
 truth-by : (Q : ℕ → Type 0) (ts : List (ℤ × ℕ)) (rel : Rel) (u : Sum) → SumOnly Q u → ReadsItem Q (truth_by_terms ts rel u)
-unfolding ItemsOnly
+unfolding Each
 truth-by Q [] rel u h = item-given Q (Item.Int (bit (stands rel u.constant))) tt
 truth-by Q (t ∷ ts) rel u h = with-truth Q (λ x. posting (Constraint.Reified x rel u.terms u.constant) (gives x))
     (λ x q. posting-reads Q (ItemOnly Q) (Constraint.Reified x rel u.terms u.constant) (gives x) (q, places-only Q u.terms h) (item-given Q x q))

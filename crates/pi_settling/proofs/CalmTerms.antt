@@ -20,7 +20,7 @@ use Rattle.pi_prop_spec.specs.Relations.{Standing, read_relation, posts_standing
 use Rattle.pi_prop_spec.specs.Truths.{truth_of_standing, truth_of_negation, truth_of_joined, read_truth}
 use Rattle.pi_prop_spec.specs.Lists.{read_item, read_each, items_or_refused, read_collection}
 use Rattle.pi_prop_spec.specs.Postings.{read_goal}
-use Rattle.pi_settling.proofs.CalmReads.{ItemOnly, ItemsOnly, PlacesOnly, items-append, SumOnly, StandingOnly, Anything, Reads, gives-reads, refuses-reads, then-reads, posting-reads, either-reads, ReadsOperand, ReadsItems, number-reads, variable-reads, plus-reads, minus-reads, times-reads, positive-reads, negative-reads, absolute-reads, total-reads, no-items-read, item-reads, relation-reads, standing-reads, standing-item, done-reads, ReadsItem, truth-variable-reads, truth-number-reads, truth-standing-reads, negation-reads, joined-reads}
+use Rattle.pi_settling.proofs.CalmReads.{ItemOnly, ItemsOnly, PlacesOnly, Each, each-append, SumOnly, StandingOnly, Anything, Reads, gives-reads, refuses-reads, then-reads, posting-reads, either-reads, ReadsOperand, ReadsItems, number-reads, variable-reads, plus-reads, minus-reads, times-reads, positive-reads, negative-reads, absolute-reads, total-reads, no-items-read, item-reads, relation-reads, standing-reads, standing-item, done-reads, ReadsItem, truth-variable-reads, truth-number-reads, truth-standing-reads, negation-reads, joined-reads}
 
 -- a term's variables are of such a kind
 abbrev pub TermOnly : (ℕ → Type 0) → Tree → Type 0
@@ -249,7 +249,7 @@ one-reads Q (atom name) h = refuses-reads Q (ItemOnly Q) (not_a_constraint (atom
 one-reads Q (comp name ts) h = refuses-reads Q (ItemOnly Q) (not_a_constraint (comp name ts))
 
 each-reads : (Q : ℕ → Type 0) (ts : List Tree) → EachOnly Q ts → Reads Q (ItemsOnly Q) (read_each ts)
-unfolding EachOnly ItemsOnly read_each
+unfolding EachOnly Each read_each
 each-reads Q [] h = gives-reads Q (ItemsOnly Q) [] tt
 each-reads Q (t ∷ ts) h =
     then-reads Q (ItemOnly Q) (ItemsOnly Q) (read_item t) (λ x. then (read_each ts) (λ xs. gives (x ∷ xs))) (one-reads Q t h.0)
@@ -264,8 +264,8 @@ over-items Q f only t h =
     (λ xs q. posting-reads Q Anything (f xs) (gives tt) (only xs q) (done-reads Q)))
 
 element-places : (Q : ℕ → Type 0) (x v : Item) (xs : List Item) → ItemOnly Q x → ItemOnly Q v → ItemsOnly Q xs → PlacesOnly Q (Constraint.Element x xs v)
-unfolding ItemsOnly
-element-places Q x v xs p q r = (p, items-append Q xs (v ∷ []) r (q, tt))
+unfolding Each
+element-places Q x v xs p q r = (p, each-append (ItemOnly Q) xs (v ∷ []) r (q, tt))
 
 element-reads : (Q : ℕ → Type 0) (i l v : Tree) → TermOnly Q i → TermOnly Q l → TermOnly Q v → Reads Q Anything (read_goal (element i l v))
 element-reads Q i l v a b c =

@@ -39,3 +39,5 @@ pub mod CalmFollowed
 pub mod CalmGoals
 pub mod CalmReads
 pub mod CalmTerms
+pub mod CalmPosted
+pub mod CalmEvents

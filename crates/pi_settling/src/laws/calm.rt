@@ -1,12 +1,18 @@
 //! Laws of calm states.
-ghost use Rattle.pi_settling.specs.CalmLaws.{EmptyIsCalm, WithoutConstraintsIsCalm, StableIsCalm, CalmGoesByVariables, NewVariablesKeepCalm, EvaluationMakesVariables, EvaluationOfAllMakesVariables, EvaluationKeepsCalm, EvaluationOfAllKeepsCalm, CalmIsStable, CalmIsSettled, NewVariablesAreSettled, WithoutConstraintsIsSettled, UnifiedMaySettle, WithinMaySettle, NotinMaySettle, StableKeepsFollowed, SettledKeepsFollowed, WithinKeepsFollowed, NotinKeepsFollowed, ConfinedKeepsFollowed, ConstraintsKeepFollowed};
+ghost use Rattle.pi_settling.specs.CalmLaws.{EmptyIsCalm, WithoutConstraintsIsCalm, StableIsCalm, CalmGoesByVariables, EventsKeepCalm, SettledIsCalm, NewVariablesKeepCalm, EvaluationMakesVariables, EvaluationOfAllMakesVariables, EvaluationKeepsCalm, EvaluationOfAllKeepsCalm, CalmIsStable, CalmIsSettled, NewVariablesAreSettled, WithoutConstraintsIsSettled, UnifiedMaySettle, WithinMaySettle, NotinMaySettle, PostedMaySettle, StableKeepsFollowed, SettledKeepsFollowed, WithinKeepsFollowed, NotinKeepsFollowed, PostedKeepsFollowed, ConfinedKeepsFollowed, ConstraintsKeepFollowed};
 
-/// The empty state is calm, one without constraints, and each stable state. Whether one is calm goes by its variables and its constraints alone.
+/// The empty state is calm, and one without constraints. Whether one is calm goes by its variables and its constraints alone.
 pub fn states_are_calm()
     ensures empty { EmptyIsCalm }
     ensures bare { WithoutConstraintsIsCalm }
-    ensures stable { StableIsCalm }
     ensures variables { CalmGoesByVariables }
+{}
+
+/// Each stable state is calm, also with the events of its goal, and so is what settling comes to.
+pub fn settling_leaves_calm()
+    ensures stable { StableIsCalm }
+    ensures events { EventsKeepCalm }
+    ensures settled { SettledIsCalm }
 {}
 
 /// New variables keep a state calm, and evaluation makes new variables alone.
@@ -32,6 +38,7 @@ pub fn goals_keep_settling()
     ensures unified { UnifiedMaySettle }
     ensures within { WithinMaySettle }
     ensures notin { NotinMaySettle }
+    ensures posted { PostedMaySettle }
 {}
 
 /// What a term is followed to stays where that is no variable, in every state: by settling, by the goals of constraints, and by
@@ -41,6 +48,7 @@ pub fn followed_terms_stay()
     ensures settled { SettledKeepsFollowed }
     ensures within { WithinKeepsFollowed }
     ensures notin { NotinKeepsFollowed }
+    ensures posted { PostedKeepsFollowed }
     ensures confined { ConfinedKeepsFollowed }
     ensures constraints { ConstraintsKeepFollowed }
 {}
