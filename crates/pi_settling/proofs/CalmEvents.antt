@@ -1,6 +1,6 @@
 -- The events of a goal keep a state calm: what they make wait are activations of agents that were made.
-use Rattle.std.specs.Prelude.{◌≡◌, ⊤, ℕ, zero, suc, ◌+◌, ◌<◌, ◌≤◌, ℤ, Bool, true, false, cond, List, [], ◌∷◌, ◌++◌, length, map, nat_le, Option, Some, None, slice_get, IsSomeAnd, refl}
-use Rattle.std.proofs.Common.{arith, sym, ◌∙◌, ap, subst, inl, inr}
+use Rattle.std.specs.Prelude.{◌≡◌, ⊤, ℕ, zero, suc, ◌+◌, ◌<◌, ℤ, Bool, true, false, cond, List, [], ◌∷◌, ◌++◌, length, map, nat_le, Option, Some, None, slice_get, IsSomeAnd, refl}
+use Rattle.std.proofs.Common.{arith, sym, subst}
 use Rattle.pi_terms.specs.Tree.{Tree, int}
 use Rattle.pi_terms.specs.Variables.{Occurs}
 use Rattle.pi_constraints.specs.declared.domain.Span.{Span}
@@ -8,8 +8,7 @@ use Rattle.pi_constraints.specs.declared.event.Event.{Event}
 use Rattle.pi_constraints.specs.declared.event.Activation.{Activation}
 use Rattle.pi_constraints.specs.Domain.{size_of}
 use Rattle.pi_constraints.specs.Value.{Bindings}
-use Rattle.pi_constraints.specs.State.{State, Agent, Variable, free, within, bound, WatchTree, on_ins, on_bound, on_dom, on_dom_any, on_posted, bindings, next, with_waiting, SpeaksBelow, IsActivation, IsState}
-use Rattle.pi_settling.specs.Stable.{IsStable}
+use Rattle.pi_constraints.specs.State.{State, Agent, Variable, free, within, bound, WatchTree, on_ins, on_bound, on_dom, on_dom_any, on_posted, bindings, next, SpeaksBelow, IsActivation, IsState}
 use Rattle.pi_settling.specs.Events.{most_told, ins_events, same_ends, bound_events, is_inner, lost_values, excluded_events, domain_events, variable_events, events_since, events_from, events_between}
 use Rattle.pi_settling.specs.Answers.{given_if, answer_to, activation_or, first_answered, activations_from, activations}
 use Rattle.pi_settling.specs.Settled.{with_events}

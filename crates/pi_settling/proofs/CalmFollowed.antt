@@ -1,18 +1,16 @@
 -- What terms are followed to stays where what is bound stays so, in every state.
-use Rattle.std.specs.Prelude.{◌≡◌, ℕ, zero, suc, ◌<◌, ◌≤◌, List, [], ◌∷◌, ◌++◌, length, map, get_or, All, Option, Some, None, unwrap_or, refl}
+use Rattle.std.specs.Prelude.{◌≡◌, ℕ, zero, suc, ◌≤◌, List, [], ◌∷◌, length, map, All, Option, Some, None, unwrap_or, refl}
 use Rattle.std.proofs.Common.{arith, sym, ◌∙◌, ap, subst, inl, inr}
-use Rattle.std.proofs.lemmas.List.{map-append}
 use Rattle.pi_terms.specs.Tree.{Tree, var, int, atom, comp}
 use Rattle.pi_terms.specs.Places.{held}
 use Rattle.pi_traces.specs.Trace.{Trace, one, done, answers}
 use Rattle.pi_constraints.specs.declared.constraint.Constraint.{Constraint}
-use Rattle.pi_constraints.specs.declared.constraint.Item.{Item}
 use Rattle.pi_constraints.specs.Value.{Bindings}
-use Rattle.pi_constraints.specs.State.{State, Variable, free, binding, bindings, next, followed_for, followed, with_variable, with_constraint}
+use Rattle.pi_constraints.specs.State.{State, Variable, binding, bindings, next, followed_for, followed, with_variable, with_constraint}
 use Rattle.pi_constraints.specs.Evaluation.{with_new_variables}
 use Rattle.pi_constraints.proofs.FollowLemmas.{IsNoVariable}
 use Rattle.pi_constraints.proofs.KeepsLemmas.{news-next}
-use Rattle.pi_constraints.proofs.StateLemmas.{variable, held_is, as_many, changed_next, same_or_not, held_elsewhere}
+use Rattle.pi_constraints.proofs.StateLemmas.{held_is, as_many, changed_next, same_or_not, held_elsewhere}
 use Rattle.pi_settling.specs.Stable.{IsStable}
 use Rattle.pi_settling.specs.Load.{load, load_of_failure}
 use Rattle.pi_settling.specs.Settled.{loaded, with_events, IsSettled}

@@ -1,5 +1,5 @@
 -- What `::` and `notin` leave: item by item a variable that isn't bound is left fewer values.
-use Rattle.std.specs.Prelude.{◌≡◌, ◌⊎◌, ℕ, zero, suc, ◌<◌, ◌≤◌, ℤ, pos, negsuc, neg_ℤ, ◌≤ℤ◌, int_le, nat_lt, Bool, true, false, not, ◌&&◌, cond, IsTrue, List, [], ◌∷◌, Option, Some, None, option_and_then, Result, Ok, Err, refl}
+use Rattle.std.specs.Prelude.{◌≡◌, ◌⊎◌, ℕ, zero, suc, ◌<◌, ◌≤◌, ℤ, pos, negsuc, neg_ℤ, ◌≤ℤ◌, int_le, nat_lt, Bool, true, false, not, cond, List, [], ◌∷◌, Option, Some, None, option_and_then, Ok, Err, refl}
 use Rattle.std.proofs.Common.{arith, sym, ◌∙◌, ap, subst, inl, inr}
 use Rattle.std.proofs.lemmas.Int.{ints, clamps}
 use Rattle.std.proofs.lemmas.List.{set_past}
@@ -13,26 +13,26 @@ use Rattle.pi_constraints.specs.declared.domain.Span.{Span}
 use Rattle.pi_constraints.specs.declared.domain.TheConstants.{MAX_VALUE}
 use Rattle.pi_constraints.specs.Domain.{IsWithinBounds, AscendFrom, IsDomain, has_value, values_of, size_of, overlap, common}
 use Rattle.pi_constraints.proofs.DomainLemmas.{values_are_within_bounds}
-use Rattle.pi_constraints.proofs.CommonLemmas.{IsDomain-common, first_value, two_values, size_of-cons}
+use Rattle.pi_constraints.proofs.CommonLemmas.{IsDomain-common, first_value, two_values}
 use Rattle.pi_constraints.proofs.RootLemmas.{value_int}
 use Rattle.pi_constraints.specs.Value.{value, IsAcyclic}
 use Rattle.pi_constraints.specs.State.{State, Variable, within, bound, binding, bindings, next, domain_in, domain_of, with_variable, with_binding, with_domain, IsState}
 use Rattle.pi_constraints.proofs.StateLemmas.{variable, changed_next, changed_here, same_or_not, held_here, held_elsewhere, domain_elsewhere, domain_good, domain_unbound, domain_bindings, IsState-changed}
 use Rattle.pi_constraints.proofs.StateLemmas.{held_is}
 use Rattle.pi_constraints.proofs.UnifyBindings.{bound_state}
-use Rattle.pi_effects.specs.Effect.{Effect, Succeeds, Fails, Raises, succeeds_in}
+use Rattle.pi_effects.specs.Effect.{Succeeds, succeeds_in}
 use Rattle.pi_effects.specs.Answer.{Answer}
 use Rattle.pi_effects.specs.Exception.{range_too_long}
 use Rattle.pi_effects.specs.Ranges.{most_items, count_by}
-use Rattle.pi_settling.specs.Roots.{root_item, all_values, domain_or_all, given}
+use Rattle.pi_settling.specs.Roots.{root_item, domain_or_all, given}
 use Rattle.pi_settling.specs.SettlingLaws.{MaySettle}
 use Rattle.pi_settling.specs.Asked.{Flat, flat, no_item, flat_items}
 use Rattle.pi_settling.specs.Choices.{with_values, narrowed_to}
 use Rattle.pi_settling.specs.Values.{can_have, domain_of_values, all_but, numbers_by}
-use Rattle.pi_settling.specs.RightSide.{RightSide, from_to, by_steps, these, domain_too_wide, unless_wide, range_can_have, range_judged, values_judged, steps_judged, step_judged, side_judged, judged_or, right_side, side_domain}
-use Rattle.pi_settling.specs.Within.{unless_bound, kept_in, only_where, item_in, item_not_in, each_item, left_side, by_domain, within_goal, notin_goal}
+use Rattle.pi_settling.specs.RightSide.{RightSide, from_to, by_steps, these, unless_wide, range_can_have, values_judged, steps_judged, step_judged, judged_or, right_side, side_domain}
+use Rattle.pi_settling.specs.Within.{unless_bound, only_where, item_in, item_not_in, each_item, left_side, by_domain}
 use Rattle.pi_settling.specs.CalmLaws.{MaySettleAfter, FollowedStay, WithinMaySettle, NotinMaySettle, WithinKeepsFollowed, NotinKeepsFollowed}
-use Rattle.pi_settling.proofs.RootLemmas.{Kept, Items}
+use Rattle.pi_settling.proofs.RootLemmas.{Items}
 use Rattle.pi_settling.proofs.TwiceLemmas.{all-domain, less_or_not, item_by, unbound-root, integer-root}
 use Rattle.pi_settling.proofs.KeepLemmas.{MayCome}
 use Rattle.pi_settling.proofs.ValueLemmas.{values_are_a_domain, all_but_is_a_domain}

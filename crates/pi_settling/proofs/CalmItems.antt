@@ -1,5 +1,5 @@
 -- What items come to where a state changes: what settling may go on with stays so.
-use Rattle.std.specs.Prelude.{◌≡◌, ◌⊎◌, ℕ, zero, suc, ◌<◌, ℤ, IsTrue, List, [], ◌∷◌, ◌++◌, length, get_or, slice_get, Some, None, Contains, refl}
+use Rattle.std.specs.Prelude.{◌≡◌, ℕ, zero, suc, ◌<◌, ℤ, IsTrue, List, [], ◌∷◌, ◌++◌, length, get_or, slice_get, Some, Contains, refl}
 use Rattle.std.proofs.Common.{sym, ◌∙◌, ap, subst, inl, inr}
 use Rattle.std.proofs.lemmas.List.{map-append}
 use Rattle.pi_terms.specs.Tree.{var}

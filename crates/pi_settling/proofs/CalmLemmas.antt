@@ -1,8 +1,8 @@
 -- Which states are calm, and that settling adds nothing to them.
-use Rattle.std.specs.Prelude.{◌≡◌, ℕ, zero, suc, ◌+◌, ◌<◌, ◌≤◌, IsTrue, List, [], ◌∷◌, ◌++◌, length, get_or, map, sum_by, Option, Some, None, Contains, refl}
+use Rattle.std.specs.Prelude.{◌≡◌, ℕ, zero, suc, ◌+◌, ◌<◌, ◌≤◌, IsTrue, List, [], ◌∷◌, ◌++◌, length, get_or, map, sum_by, Some, None, Contains, refl}
 use Rattle.std.proofs.Common.{arith, sym, ◌∙◌, ap, subst, inl, inr, append-nil}
-use Rattle.pi_terms.specs.Tree.{Tree, var, int, atom, comp, Trees, no_trees, tree}
-use Rattle.pi_terms.specs.Places.{Places, held}
+use Rattle.pi_terms.specs.Tree.{var, int, atom, comp, no_trees, tree}
+use Rattle.pi_terms.specs.Places.{held}
 use Rattle.pi_traces.specs.Trace.{one}
 use Rattle.pi_constraints.specs.declared.constraint.Constraint.{Constraint}
 use Rattle.pi_constraints.specs.declared.constraint.Item.{Item}
@@ -10,23 +10,21 @@ use Rattle.pi_constraints.specs.declared.domain.Span.{Span}
 use Rattle.pi_constraints.specs.Domain.{has_value}
 use Rattle.pi_prop_spec.specs.Places.{places_of, domain_at}
 use Rattle.pi_constraints.specs.State.{State, Variable, free, binding, next, with_new, IsState}
-use Rattle.pi_constraints.specs.Value.{Bindings}
 use Rattle.pi_constraints.specs.declared.event.Activation.{Activation}
 use Rattle.pi_prop_spec.specs.Filter.{Leaves}
-use Rattle.pi_constraints.specs.Evaluation.{Evaluated, EvaluatedAll, slot_term, evaluated, evaluated_all, with_new_variables}
+use Rattle.pi_constraints.specs.Evaluation.{Evaluated, evaluated, evaluated_all, with_new_variables}
 use Rattle.pi_constraints.proofs.KeepsLemmas.{empty-is-state, news-keep, news-next}
 use Rattle.pi_constraints.proofs.StateLemmas.{variable}
-use Rattle.pi_settling.specs.Roots.{root_item, only, domain_or_all, given}
+use Rattle.pi_settling.specs.Roots.{root_item, only, given}
 use Rattle.pi_settling.specs.Stable.{at_places, IsStable}
 use Rattle.pi_settling.specs.Events.{events_between}
-use Rattle.pi_settling.specs.Answers.{activations}
 use Rattle.pi_settling.specs.Load.{count_due, count_lost, load}
 use Rattle.pi_settling.specs.Settled.{loaded, with_events, IsSettled}
 use Rattle.pi_settling.specs.SettlingLaws.{MaySettle}
 use Rattle.pi_settling.specs.Run.{given_at}
-use Rattle.pi_settling.specs.Runs.{MayPropagate, no_run}
+use Rattle.pi_settling.specs.Runs.{no_run}
 use Rattle.pi_settling.specs.Calm.{IsCalm}
-use Rattle.pi_settling.specs.CalmLaws.{EmptyIsCalm, WithoutConstraintsIsCalm, StableIsCalm, CalmGoesByVariables, NewVariablesKeepCalm, EvaluationMakesVariables, EvaluationOfAllMakesVariables, EvaluationKeepsCalm, EvaluationOfAllKeepsCalm, CalmIsStable, CalmIsSettled, NewVariablesAreSettled, WithoutConstraintsIsSettled}
+use Rattle.pi_settling.specs.CalmLaws.{EmptyIsCalm, WithoutConstraintsIsCalm, StableIsCalm, CalmGoesByVariables, NewVariablesAddUp, NewVariablesKeepCalm, SlotMakesVariables, EvaluationMakesVariables, EvaluationOfAllMakesVariables, EvaluationKeepsCalm, EvaluationOfAllKeepsCalm, CalmIsStable, CalmIsSettled, NewVariablesAreSettled, WithoutConstraintsIsSettled}
 use Rattle.pi_settling.proofs.StableLemmas.{only-has, just-is}
 use Rattle.pi_settling.proofs.UniqueLemmas.{same_states}
 use Rattle.pi_settling.proofs.EventLemmas.{from-none}
@@ -37,7 +35,7 @@ use Rattle.pi_settling.proofs.RunLemmas.{contained}
 use Rattle.pi_settling.proofs.WakeLemmas.{runs_reach_stable_domains}
 use Rattle.pi_settling.proofs.LabelKeeps.{none-woken}
 use Rattle.pi_settling.proofs.ConfinedLemmas.{root-same}
-use Rattle.pi_settling.proofs.CalmItems.{LooksLike, calm-like, news-like, news-at}
+use Rattle.pi_settling.proofs.CalmItems.{calm-like, news-like, news-at}
 
 -- ---- a calm state is its own stable state
 
@@ -110,21 +108,21 @@ calm_goes_by_variables s r calm is variables constraints = calm-like s r is (rec
 pub new_variables_keep_calm : NewVariablesKeepCalm
 new_variables_keep_calm k s calm = calm-like s (with_new_variables k s) (news-keep k s calm.state) (news-like k s calm.state) calm
 
-news-then : (j k : ℕ) (s : State) → with_new_variables k (with_new_variables j s) ≡ with_new_variables (j + k) s
+pub new_variables_add_up : NewVariablesAddUp
 unfolding with_new_variables
-news-then zero k s = let same : k ≡ 0 + k = omega arith in ap (λ (n : ℕ). with_new_variables n s) same
-news-then (suc j) k s = let same : suc (j + k) ≡ suc j + k = omega arith in news-then j k (with_new s) ∙ ap (λ (n : ℕ). with_new_variables n s) same
+new_variables_add_up zero k s = let same : k ≡ 0 + k = omega arith in ap (λ (n : ℕ). with_new_variables n s) same
+new_variables_add_up (suc j) k s = let same : suc (j + k) ≡ suc j + k = omega arith in new_variables_add_up j k (with_new s) ∙ ap (λ (n : ℕ). with_new_variables n s) same
 
-slot-makes : (o : Option Tree) (k : ℕ) (e : Places) (s : State) → (j : ℕ) × ((slot_term o k e s).state ≡ with_new_variables j s)
+pub slot_makes_variables : SlotMakesVariables
 unfolding with_new_variables
-slot-makes (Some t) k e s = (0, refl)
-slot-makes None k e s = (1, refl)
+slot_makes_variables (Some t) k e s = (0, refl)
+slot_makes_variables None k e s = (1, refl)
 
 mutual
   unfolding evaluated with_new_variables
 
   pub evaluation_makes_variables : EvaluationMakesVariables
-  evaluation_makes_variables (var k) e s = slot-makes (held e k) k e s
+  evaluation_makes_variables (var k) e s = slot_makes_variables (held e k) k e s
   evaluation_makes_variables (int n) e s = (0, refl)
   evaluation_makes_variables (atom name) e s = (0, refl)
   evaluation_makes_variables (comp name ts) e s = evaluation_of_all_makes_variables ts e s
@@ -135,7 +133,7 @@ mutual
       let x : Evaluated = evaluated t e s in
       let first : (j : ℕ) × (x.state ≡ with_new_variables j s) = evaluation_makes_variables t e s in
       let rest : (k : ℕ) × ((evaluated_all ts x.slots x.state).state ≡ with_new_variables k x.state) = evaluation_of_all_makes_variables ts x.slots x.state in
-      (first.0 + rest.0, rest.1 ∙ (ap (with_new_variables rest.0) first.1 ∙ news-then first.0 rest.0 s))
+      (first.0 + rest.0, rest.1 ∙ (ap (with_new_variables rest.0) first.1 ∙ new_variables_add_up first.0 rest.0 s))
 
 pub evaluation_keeps_calm : EvaluationKeepsCalm
 evaluation_keeps_calm t e s calm = let made = evaluation_makes_variables t e s in subst IsCalm (sym made.1) (new_variables_keep_calm made.0 s calm)

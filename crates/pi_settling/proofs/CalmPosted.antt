@@ -1,5 +1,5 @@
 -- What a goal that posts constraints leaves may settle: each of their items is an integer that a domain can have, or a variable that isn't bound and has a domain then.
-use Rattle.std.specs.Prelude.{◌≡◌, ⊤, ◌⊎◌, ℕ, zero, suc, ◌+◌, ◌-◌, ◌<◌, ◌≤◌, ℤ, neg_ℤ, IsTrue, List, [], ◌∷◌, ◌++◌, length, map, get_or, Option, Some, None, unwrap_or, Contains, Result, Ok, Err, refl}
+use Rattle.std.specs.Prelude.{◌≡◌, ℕ, zero, suc, ◌+◌, ◌-◌, ◌<◌, ◌≤◌, ℤ, neg_ℤ, List, [], ◌∷◌, ◌++◌, length, map, get_or, Option, Some, None, unwrap_or, Contains, Result, Ok, Err, refl}
 use Rattle.std.proofs.Common.{arith, sym, ◌∙◌, ap, subst, inl, inr, append_assoc, append-nil}
 use Rattle.std.proofs.lemmas.List.Elements.{Contains-append_left, Contains-append_right, Contains-append_cases}
 use Rattle.pi_terms.specs.Tree.{Tree, var}
@@ -19,26 +19,26 @@ use Rattle.pi_constraints.proofs.CommonLemmas.{size_of-cons}
 use Rattle.pi_constraints.proofs.KeepsLemmas.{news-keep, news-next}
 use Rattle.pi_constraints.proofs.StateLemmas.{variable, held_is, bound_below}
 use Rattle.pi_constraints.proofs.StateLawLemmas.{constraint-keeps-a-state}
-use Rattle.pi_effects.specs.Effect.{Effect, Succeeds, Raises}
+use Rattle.pi_effects.specs.Effect.{Succeeds}
 use Rattle.pi_prop_spec.specs.Places.{sum_places, places_of}
 use Rattle.pi_prop_spec.specs.Steps.{Refusal, Known}
 use Rattle.pi_prop_spec.specs.Operands.{Goal}
 use Rattle.pi_prop_spec.specs.Terms.{goal_of}
 use Rattle.pi_prop_spec.specs.Limits.{first_refusal}
-use Rattle.pi_prop_spec.specs.Postings.{Posting, read_goal, nothing_made, posting_unless, finished, posting_of, posting_in, raised_by}
+use Rattle.pi_prop_spec.specs.Postings.{Posting, read_goal, nothing_made, posting_unless, finished, posting_of, posting_in}
 use Rattle.pi_prop_spec.proofs.PostingLemmas.{postings_may_be_posted}
 use Rattle.pi_settling.specs.Roots.{root_item, all_values}
 use Rattle.pi_settling.specs.SettlingLaws.{MaySettle}
 use Rattle.pi_settling.specs.Confined.{with_default, confined_at, confined}
-use Rattle.pi_settling.specs.Posted.{with_constraints, places_of_all, posted_in, effect_of_posting, posting_goal}
+use Rattle.pi_settling.specs.Posted.{with_constraints, places_of_all, posted_in, effect_of_posting}
 use Rattle.pi_settling.specs.CalmLaws.{MaySettleAfter, FollowedStay, PostedMaySettle, PostedKeepsFollowed}
 use Rattle.pi_settling.proofs.TwiceLemmas.{past_free, all-domain, unbound-root}
 use Rattle.pi_settling.proofs.KeepLemmas.{MayCome}
 use Rattle.pi_settling.proofs.ConfinedLemmas.{one-next, all-keep, root-same, confining_binds_nothing, confined_have_domains}
-use Rattle.pi_settling.proofs.CalmItems.{LooksLike, like-comes, news-like}
+use Rattle.pi_settling.proofs.CalmItems.{like-comes, news-like}
 use Rattle.pi_settling.proofs.CalmFollowed.{stay-then, news-stay, news-held, with-variables, constraints_keep_followed, confined_keeps_followed}
 use Rattle.pi_settling.proofs.CalmGoals.{left_with, fixed-keeps-state}
-use Rattle.pi_settling.proofs.CalmReads.{ItemOnly, ItemsOnly, PlacesOnly, Each, each-append, AllOnly, MadeOnly, Anything}
+use Rattle.pi_settling.proofs.CalmReads.{ItemOnly, PlacesOnly, Each, each-append, AllOnly}
 use Rattle.pi_settling.proofs.CalmTerms.{TermOnly, goal-reads}
 
 -- ---- the values of terms

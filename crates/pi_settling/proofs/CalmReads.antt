@@ -1,7 +1,7 @@
 -- What variables readings speak of: if what is read has variables of which this is so, and it is so of all new ones, it is so of the variables of what is posted.
-use Rattle.std.specs.Prelude.{◌≡◌, ⊤, ℕ, zero, suc, ◌==◌, ◌≤◌, nat_lt, Bool, true, false, cond, ◌&&◌, List, [], ◌∷◌, ◌++◌, ℤ, pos, negsuc, ◌+ℤ◌, ◌*ℤ◌, Option, Some, None, Result, Ok, Err, refl}
+use Rattle.std.specs.Prelude.{◌≡◌, ⊤, ℕ, zero, suc, ◌==◌, ◌≤◌, nat_lt, Bool, true, false, cond, ◌&&◌, List, [], ◌∷◌, ◌++◌, ℤ, pos, negsuc, ◌+ℤ◌, ◌*ℤ◌, Option, Some, None, Ok}
 use Rattle.std.specs.Ordering.{int_eq}
-use Rattle.std.proofs.Common.{arith, sym, ◌∙◌, ap, subst}
+use Rattle.std.proofs.Common.{arith, subst}
 use Rattle.pi_terms.specs.Tree.{int}
 use Rattle.pi_constraints.specs.declared.constraint.Rel.{Rel}
 use Rattle.pi_constraints.specs.declared.constraint.Item.{Item}
@@ -9,9 +9,9 @@ use Rattle.pi_constraints.specs.declared.constraint.Constraint.{Constraint}
 use Rattle.pi_effects.specs.Range.{has_128_bits}
 use Rattle.pi_prop_spec.specs.Places.{sum_places, places_of}
 use Rattle.pi_prop_spec.specs.Rules.{magnitude}
-use Rattle.pi_prop_spec.specs.Operands.{Operand, number, variable, plus, minus, times, positive, negative, absolute, total, no_operand, Operands, no_operands, operand, Comparison, equal, unequal, less, at_most, greater, at_least, Connective, and, or, either, implies, equivalent}
+use Rattle.pi_prop_spec.specs.Operands.{Operand, number, variable, plus, minus, times, positive, negative, absolute, total, Operands, no_operands, operand, Comparison, equal, unequal, less, at_most, greater, at_least, Connective, and, or, either, implies, equivalent}
 use Rattle.pi_prop_spec.specs.PostingSums.{Sum, of_number, of_variable, of_item, in_front, with_term, with_terms, scaled_terms, added, scaled, opposite, difference}
-use Rattle.pi_prop_spec.specs.Steps.{Refusal, not_a_constraint, wide_coefficient, Made, Known, Reading, gives, refuses, after, then, new_variable, posting, linear, have_128_bits, step, constant_of, variable_of_terms, variable_of, side_by, side, product_variable, product_by, product, absolute_variable, absolute_by, absolute_sum, read_operand, read_items}
+use Rattle.pi_prop_spec.specs.Steps.{Refusal, not_a_constraint, wide_coefficient, Made, Known, Reading, gives, refuses, then, new_variable, posting, linear, have_128_bits, step, constant_of, variable_of_terms, variable_of, side_by, side, product_variable, product_by, product, absolute_variable, absolute_by, absolute_sum, read_operand, read_items}
 use Rattle.pi_prop_spec.specs.Relations.{Standing, relation_of, sides_apart, and_apart, read_relation, stands, posts_never, posts_by_terms, posts_standing}
 use Rattle.pi_prop_spec.specs.Truths.{truth_variable_is, new_truth, truth_number_is, bit, truth_by_terms, truth_of_standing, truth_of_negation, truth_of_joined}
 use Rattle.pi_prop_spec.proofs.GrowLemmas.{after_is, is_known}

@@ -1,8 +1,8 @@
 -- A goal's reading speaks of the variables of its term and of new ones.
-use Rattle.std.specs.Prelude.{◌≡◌, ⊤, ℕ, zero, suc, Bool, true, false, cond, List, [], ◌∷◌, ◌++◌, ℤ, pos, Option, Some, None, option_map, option_and_then, codes, refl}
+use Rattle.std.specs.Prelude.{⊤, ℕ, zero, suc, Bool, true, false, cond, List, [], ◌∷◌, ℤ, pos, Option, Some, None, option_map, option_and_then, codes, refl}
 use Rattle.std.specs.Option.{option_or}
 use Rattle.std.specs.Str.{bytes_eq}
-use Rattle.std.proofs.Common.{subst, inl, inr}
+use Rattle.std.proofs.Common.{inl, inr}
 use Rattle.pi_terms.specs.Tree.{Tree, var, int, atom, comp, Trees, no_trees, tree, cells}
 use Rattle.pi_terms.specs.ListNames.{nil, cell_name}
 use Rattle.pi_terms.specs.Variables.{Occurs, OccursInAny}
@@ -12,15 +12,15 @@ use Rattle.pi_constraints.specs.declared.constraint.Constraint.{Constraint}
 use Rattle.pi_constraints.specs.Value.{value}
 use Rattle.pi_constraints.specs.State.{followed_for, followed}
 use Rattle.pi_effects.specs.Items.{each_tree, in_front_of, items_for, list_items, collection_items}
-use Rattle.pi_prop_spec.specs.Operands.{Operand, variable, plus, minus, times, positive, negative, absolute, total, no_operand, Operands, no_operands, operand, Comparison, Connective, Boolean, truth_variable, truth_number, relation, negation, joined, no_boolean, Goal, relates, is_so, all_different, all_distinct, element, no_constraint}
-use Rattle.pi_prop_spec.specs.Terms.{total_of, one_part, two_parts, operand_of, operands_of, operands_of_array, operands_of_list, comparison_named, connective_named, joined_by, related_by, boolean_of, goal_of_boolean, goal_of_one, goal_of_three, goal_of}
+use Rattle.pi_prop_spec.specs.Operands.{Operand, plus, minus, times, positive, negative, absolute, no_operand, Operands, no_operands, operand, Comparison, Connective, Boolean, truth_variable, truth_number, relation, negation, joined, no_boolean, Goal, is_so, all_different, all_distinct, element, no_constraint}
+use Rattle.pi_prop_spec.specs.Terms.{total_of, one_part, two_parts, operand_of, operands_of, operands_of_array, operands_of_list, comparison_named, connective_named, joined_by, related_by, boolean_of, goal_of_boolean, goal_of}
 use Rattle.pi_prop_spec.specs.PostingSums.{of_number, of_item, difference}
-use Rattle.pi_prop_spec.specs.Steps.{not_a_constraint, Reading, gives, refuses, then, posting, read_operand}
-use Rattle.pi_prop_spec.specs.Relations.{Standing, read_relation, posts_standing}
+use Rattle.pi_prop_spec.specs.Steps.{not_a_constraint, gives, then, posting, read_operand}
+use Rattle.pi_prop_spec.specs.Relations.{read_relation, posts_standing}
 use Rattle.pi_prop_spec.specs.Truths.{truth_of_standing, truth_of_negation, truth_of_joined, read_truth}
 use Rattle.pi_prop_spec.specs.Lists.{read_item, read_each, items_or_refused, read_collection}
 use Rattle.pi_prop_spec.specs.Postings.{read_goal}
-use Rattle.pi_settling.proofs.CalmReads.{ItemOnly, ItemsOnly, PlacesOnly, Each, each-append, SumOnly, StandingOnly, Anything, Reads, gives-reads, refuses-reads, then-reads, posting-reads, either-reads, ReadsOperand, ReadsItems, number-reads, variable-reads, plus-reads, minus-reads, times-reads, positive-reads, negative-reads, absolute-reads, total-reads, no-items-read, item-reads, relation-reads, standing-reads, standing-item, done-reads, ReadsItem, truth-variable-reads, truth-number-reads, truth-standing-reads, negation-reads, joined-reads}
+use Rattle.pi_settling.proofs.CalmReads.{ItemOnly, ItemsOnly, PlacesOnly, Each, each-append, SumOnly, StandingOnly, Anything, Reads, gives-reads, refuses-reads, then-reads, posting-reads, ReadsOperand, ReadsItems, number-reads, variable-reads, plus-reads, minus-reads, times-reads, positive-reads, negative-reads, absolute-reads, total-reads, no-items-read, item-reads, relation-reads, standing-reads, standing-item, done-reads, ReadsItem, truth-variable-reads, truth-number-reads, truth-standing-reads, negation-reads, joined-reads}
 
 -- a term's variables are of such a kind
 abbrev pub TermOnly : (ℕ → Type 0) → Tree → Type 0

@@ -1,8 +1,7 @@
 -- A unification leaves a state that may settle: under each assignment a variable with a domain is an integer of it, so it is bound to one, or to a variable with a domain.
-use Rattle.std.specs.Prelude.{◌≡◌, ◌⊎◌, ℕ, ◌≤◌, ℤ, pos, IsTrue, List, [], ◌∷◌, length, get_or, Option, Some, None, Contains, refl}
+use Rattle.std.specs.Prelude.{◌≡◌, ℕ, ◌≤◌, ℤ, pos, IsTrue, List, [], ◌∷◌, length, get_or, Option, Some, None, Contains, refl}
 use Rattle.std.proofs.Common.{arith, sym, ◌∙◌, ap, subst, inl, inr}
 use Rattle.pi_terms.specs.Tree.{Tree, var, int, atom, comp}
-use Rattle.pi_terms.specs.Places.{held}
 use Rattle.pi_terms.specs.Substitution.{instance}
 use Rattle.pi_terms.proofs.VariableLemmas.{substitution}
 use Rattle.pi_constraints.specs.declared.constraint.Constraint.{Constraint}
@@ -10,15 +9,13 @@ use Rattle.pi_constraints.specs.declared.constraint.Item.{Item}
 use Rattle.pi_constraints.specs.declared.domain.Span.{Span}
 use Rattle.pi_constraints.specs.Domain.{IsWithinBounds, IsDomain, has_value, values_of, size_of}
 use Rattle.pi_constraints.proofs.DomainLemmas.{values_lie_in_spans, values_are_within_bounds}
-use Rattle.pi_prop_spec.specs.Places.{places_of}
-use Rattle.pi_constraints.specs.Value.{Bindings, IsAcyclic, value, Solves}
-use Rattle.pi_constraints.specs.State.{State, bindings, next, domain_of, followed, SpeaksBelow, IsState}
+use Rattle.pi_constraints.specs.Value.{IsAcyclic, value, Solves}
+use Rattle.pi_constraints.specs.State.{State, bindings, next, domain_of, SpeaksBelow, IsState}
 use Rattle.pi_constraints.specs.Unify.{unified, IsAssignment, Grows}
 use Rattle.pi_constraints.proofs.ValueLemmas.{values_solve, unbound_is_its_own_value}
 use Rattle.pi_constraints.proofs.StateLemmas.{domain_unbound, domain_good}
 use Rattle.pi_constraints.proofs.UnifyLemmas.{unified_is_a_state, unified_grows, unified_has_the_assignments}
 use Rattle.pi_settling.specs.Roots.{root_item, item_of}
-use Rattle.pi_settling.specs.SettlingLaws.{MaySettle}
 use Rattle.pi_settling.specs.CalmLaws.{UnifiedMaySettle}
 use Rattle.pi_settling.proofs.RootLemmas.{Kept, root-by_value, value_later}
 use Rattle.pi_settling.proofs.KeepLemmas.{MayCome}

@@ -1,12 +1,12 @@
 -- The laws of calm states: which states are, what keeps them so, and what goals leave that began in one. (Own.)
-use Rattle.std.specs.Prelude.{◌≡◌, ℕ, ◌≤◌, List, [], All, Some}
+use Rattle.std.specs.Prelude.{◌≡◌, ℕ, ◌+◌, ◌≤◌, List, [], All, Option, Some}
 use Rattle.pi_terms.specs.Tree.{Tree, var, Trees}
 use Rattle.pi_terms.specs.Places.{Places}
 use Rattle.pi_traces.specs.Trace.{Trace, one, answers}
 use Rattle.pi_constraints.specs.declared.constraint.Constraint.{Constraint}
 use Rattle.pi_constraints.specs.declared.constraint.Item.{Item}
 use Rattle.pi_constraints.specs.State.{State, empty_state, next, bindings, followed, SpeaksBelow, IsState}
-use Rattle.pi_constraints.specs.Evaluation.{evaluated, evaluated_all, with_new_variables}
+use Rattle.pi_constraints.specs.Evaluation.{slot_term, evaluated, evaluated_all, with_new_variables}
 use Rattle.pi_constraints.specs.Unify.{unified}
 use Rattle.pi_effects.specs.Effect.{Succeeds}
 use Rattle.pi_settling.specs.Stable.{IsStable}
@@ -41,10 +41,16 @@ SettledIsCalm = (before s : State) (t : Trace State) → IsState s → MaySettle
 
 -- ---- new variables
 
+abbrev pub NewVariablesAddUp : Type 0
+NewVariablesAddUp = (j k : ℕ) (s : State) → with_new_variables k (with_new_variables j s) ≡ with_new_variables (j + k) s
+
 abbrev pub NewVariablesKeepCalm : Type 0
 NewVariablesKeepCalm = (k : ℕ) (s : State) → IsCalm s → IsCalm (with_new_variables k s)
 
--- evaluation makes new variables alone
+-- evaluation makes new variables alone, and so does a slot
+abbrev pub SlotMakesVariables : Type 0
+SlotMakesVariables = (o : Option Tree) (k : ℕ) (e : Places) (s : State) → (j : ℕ) × ((slot_term o k e s).state ≡ with_new_variables j s)
+
 abbrev pub EvaluationMakesVariables : Type 0
 EvaluationMakesVariables = (t : Tree) (e : Places) (s : State) → (k : ℕ) × ((evaluated t e s).state ≡ with_new_variables k s)
 

@@ -1,5 +1,5 @@
 //! Laws of calm states.
-ghost use Rattle.pi_settling.specs.CalmLaws.{EmptyIsCalm, WithoutConstraintsIsCalm, StableIsCalm, CalmGoesByVariables, EventsKeepCalm, SettledIsCalm, NewVariablesKeepCalm, EvaluationMakesVariables, EvaluationOfAllMakesVariables, EvaluationKeepsCalm, EvaluationOfAllKeepsCalm, CalmIsStable, CalmIsSettled, NewVariablesAreSettled, WithoutConstraintsIsSettled, UnifiedMaySettle, WithinMaySettle, NotinMaySettle, PostedMaySettle, StableKeepsFollowed, SettledKeepsFollowed, WithinKeepsFollowed, NotinKeepsFollowed, PostedKeepsFollowed, ConfinedKeepsFollowed, ConstraintsKeepFollowed};
+ghost use Rattle.pi_settling.specs.CalmLaws.{EmptyIsCalm, WithoutConstraintsIsCalm, StableIsCalm, CalmGoesByVariables, EventsKeepCalm, SettledIsCalm, NewVariablesAddUp, NewVariablesKeepCalm, SlotMakesVariables, EvaluationMakesVariables, EvaluationOfAllMakesVariables, EvaluationKeepsCalm, EvaluationOfAllKeepsCalm, CalmIsStable, CalmIsSettled, NewVariablesAreSettled, WithoutConstraintsIsSettled, UnifiedMaySettle, WithinMaySettle, NotinMaySettle, PostedMaySettle, StableKeepsFollowed, SettledKeepsFollowed, WithinKeepsFollowed, NotinKeepsFollowed, PostedKeepsFollowed, ConfinedKeepsFollowed, ConstraintsKeepFollowed};
 
 /// The empty state is calm, and one without constraints. Whether one is calm goes by its variables and its constraints alone.
 pub fn states_are_calm()
@@ -17,7 +17,9 @@ pub fn settling_leaves_calm()
 
 /// New variables keep a state calm, and evaluation makes new variables alone.
 pub fn evaluation_keeps_calm()
+    ensures adds_up { NewVariablesAddUp }
     ensures new { NewVariablesKeepCalm }
+    ensures slot { SlotMakesVariables }
     ensures makes { EvaluationMakesVariables }
     ensures makes_all { EvaluationOfAllMakesVariables }
     ensures term { EvaluationKeepsCalm }
@@ -33,7 +35,8 @@ pub fn settling_adds_nothing()
     ensures bare { WithoutConstraintsIsSettled }
 {}
 
-/// What a unification and the goals of constraints leave may settle where the state before might, and agents and what waits are as they were.
+/// What a unification and the goals of constraints leave may settle where the state before might, and agents and what waits are
+/// as they were.
 pub fn goals_keep_settling()
     ensures unified { UnifiedMaySettle }
     ensures within { WithinMaySettle }
