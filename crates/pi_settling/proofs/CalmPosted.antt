@@ -31,7 +31,7 @@ use Rattle.pi_settling.specs.Roots.{root_item, all_values}
 use Rattle.pi_settling.specs.SettlingLaws.{MaySettle}
 use Rattle.pi_settling.specs.Confined.{with_default, confined_at, confined}
 use Rattle.pi_settling.specs.Posted.{with_constraints, places_of_all, posted_in, effect_of_posting}
-use Rattle.pi_settling.specs.CalmLaws.{MaySettleAfter, FollowedStay, PostedMaySettle, PostedKeepsFollowed}
+use Rattle.pi_settling.specs.CalmLaws.{MaySettleAfter, FollowedStay, ConfinedMaySettle, PostedMaySettle, PostedKeepsFollowed}
 use Rattle.pi_settling.proofs.TwiceLemmas.{past_free, all-domain, unbound-root}
 use Rattle.pi_settling.proofs.KeepLemmas.{MayCome}
 use Rattle.pi_settling.proofs.ConfinedLemmas.{one-next, all-keep, root-same, confining_binds_nothing, confined_have_domains}
@@ -209,6 +209,17 @@ confined-root s xs x = root-same s (confined s xs) (confining_binds_nothing s xs
 confined-comes : (s : State) (xs : List Item) (x : Item) → MayCome s (root_item s x) → MayCome (confined s xs) (root_item (confined s xs) x)
 confined-comes s xs x (inl (n, d, e, has)) = inl (n, d, confined-root s xs x ∙ e, all-keep s xs n d has)
 confined-comes s xs x (inr (i, e, b)) = inr (i, confined-root s xs x ∙ e, b)
+
+pub confined_may_settle : ConfinedMaySettle
+confined_may_settle s items is may =
+    let same : Else s (confined s items) = confined-else items s in
+    record {
+      state = confined-state items s is;
+      settles = λ c y posted at. confined-comes s items y (may c y (subst (λ (cs : List Constraint). Contains cs c) same.constraints posted) at);
+      more = omega (arith, confined-next items s);
+      agents = same.agents;
+      waiting = same.waiting;
+    }
 
 -- an item that is confined
 place-comes : (q : State) (xs : List Item) (y : Item) → Contains xs y → PlaceWithin (next q) y → ItemOnly (IsFree q) y → MayCome (confined q xs) (root_item (confined q xs) y)

@@ -20,7 +20,8 @@ use Rattle.pi_prop_spec.specs.Relations.{read_relation, posts_standing}
 use Rattle.pi_prop_spec.specs.Truths.{truth_of_standing, truth_of_negation, truth_of_joined, read_truth}
 use Rattle.pi_prop_spec.specs.Lists.{read_item, read_each, items_or_refused, read_collection}
 use Rattle.pi_prop_spec.specs.Postings.{read_goal}
-use Rattle.pi_settling.proofs.CalmReads.{ItemOnly, ItemsOnly, PlacesOnly, Each, each-append, SumOnly, StandingOnly, Anything, Reads, gives-reads, refuses-reads, then-reads, posting-reads, ReadsOperand, ReadsItems, number-reads, variable-reads, plus-reads, minus-reads, times-reads, positive-reads, negative-reads, absolute-reads, total-reads, no-items-read, item-reads, relation-reads, standing-reads, standing-item, done-reads, ReadsItem, truth-variable-reads, truth-number-reads, truth-standing-reads, negation-reads, joined-reads}
+use Rattle.pi_settling.proofs.CalmReads.{ItemOnly, ItemsOnly, PlacesOnly, Each, each-append, SumOnly, Reads, gives-reads, refuses-reads, then-reads, posting-reads, ReadsOperand, ReadsItems, number-reads, variable-reads, plus-reads, minus-reads, times-reads, positive-reads, negative-reads, absolute-reads, total-reads, no-items-read, item-reads}
+use Rattle.pi_settling.proofs.CalmTruths.{StandingOnly, Anything, relation-reads, standing-reads, standing-item, done-reads, ReadsItem, truth-variable-reads, truth-number-reads, truth-standing-reads, negation-reads, joined-reads}
 
 -- a term's variables are of such a kind
 abbrev pub TermOnly : (ℕ → Type 0) → Tree → Type 0

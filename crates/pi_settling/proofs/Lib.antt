@@ -38,6 +38,7 @@ pub mod CalmUnify
 pub mod CalmFollowed
 pub mod CalmGoals
 pub mod CalmReads
+pub mod CalmTruths
 pub mod CalmTerms
 pub mod CalmPosted
 pub mod CalmEvents

@@ -102,6 +102,10 @@ NotinMaySettle = (s r : State) (t u : Tree) → IsState s → MaySettle s → no
 abbrev pub PostedMaySettle : Type 0
 PostedMaySettle = (s r : State) (t : Tree) → IsState s → MaySettle s → SpeaksBelow (next s) t → posting_goal s t ≡ Succeeds r → MaySettleAfter s r
 
+-- and so is one in which labelling begins
+abbrev pub ConfinedMaySettle : Type 0
+ConfinedMaySettle = (s : State) (items : List Item) → IsState s → MaySettle s → MaySettleAfter s (confined s items)
+
 -- ---- what terms are followed to, in every state
 
 -- what a term is followed to stays, where that is no variable

@@ -1,5 +1,5 @@
 //! Laws of calm states.
-ghost use Rattle.pi_settling.specs.CalmLaws.{EmptyIsCalm, WithoutConstraintsIsCalm, StableIsCalm, CalmGoesByVariables, EventsKeepCalm, SettledIsCalm, NewVariablesAddUp, NewVariablesKeepCalm, SlotMakesVariables, EvaluationMakesVariables, EvaluationOfAllMakesVariables, EvaluationKeepsCalm, EvaluationOfAllKeepsCalm, CalmIsStable, CalmIsSettled, NewVariablesAreSettled, WithoutConstraintsIsSettled, UnifiedMaySettle, WithinMaySettle, NotinMaySettle, PostedMaySettle, StableKeepsFollowed, SettledKeepsFollowed, WithinKeepsFollowed, NotinKeepsFollowed, PostedKeepsFollowed, ConfinedKeepsFollowed, ConstraintsKeepFollowed};
+ghost use Rattle.pi_settling.specs.CalmLaws.{EmptyIsCalm, WithoutConstraintsIsCalm, StableIsCalm, CalmGoesByVariables, EventsKeepCalm, SettledIsCalm, NewVariablesAddUp, NewVariablesKeepCalm, SlotMakesVariables, EvaluationMakesVariables, EvaluationOfAllMakesVariables, EvaluationKeepsCalm, EvaluationOfAllKeepsCalm, CalmIsStable, CalmIsSettled, NewVariablesAreSettled, WithoutConstraintsIsSettled, UnifiedMaySettle, WithinMaySettle, NotinMaySettle, PostedMaySettle, ConfinedMaySettle, StableKeepsFollowed, SettledKeepsFollowed, WithinKeepsFollowed, NotinKeepsFollowed, PostedKeepsFollowed, ConfinedKeepsFollowed, ConstraintsKeepFollowed};
 
 /// The empty state is calm, and one without constraints. Whether one is calm goes by its variables and its constraints alone.
 pub fn states_are_calm()
@@ -36,12 +36,13 @@ pub fn settling_adds_nothing()
 {}
 
 /// What a unification and the goals of constraints leave may settle where the state before might, and agents and what waits are
-/// as they were.
+/// as they were. So it is of the state in which a labelling begins.
 pub fn goals_keep_settling()
     ensures unified { UnifiedMaySettle }
     ensures within { WithinMaySettle }
     ensures notin { NotinMaySettle }
     ensures posted { PostedMaySettle }
+    ensures confined { ConfinedMaySettle }
 {}
 
 /// What a term is followed to stays where that is no variable, in every state: by settling, by the goals of constraints, and by

@@ -1,6 +1,6 @@
 use Rattle.pi_settling.proofs.CalmUnify.{unified_may_settle}
 use Rattle.pi_settling.proofs.CalmGoals.{within_may_settle, notin_may_settle}
-use Rattle.pi_settling.proofs.CalmPosted.{posted_may_settle}
+use Rattle.pi_settling.proofs.CalmPosted.{posted_may_settle, confined_may_settle}
 use Rattle.pi_settling.proofs.laws.calm.goals_keep_settling.Goals as goal
 
 pub returns-clause-unified : goal.returns-clause-unified
@@ -14,3 +14,6 @@ returns-clause-notin c = notin_may_settle
 
 pub returns-clause-posted : goal.returns-clause-posted
 returns-clause-posted c = posted_may_settle
+
+pub returns-clause-confined : goal.returns-clause-confined
+returns-clause-confined c = confined_may_settle
