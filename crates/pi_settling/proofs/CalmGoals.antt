@@ -102,11 +102,11 @@ fixed-made s n v is may made none fixed =
       waiting = refl;
     }
 
-abbrev with_all : State → List Variable → State
+abbrev pub with_all : State → List Variable → State
 with_all s vs = record { variables = vs; constraints = s.constraints; agents = s.agents; waiting = s.waiting }
 
 -- a number past the last variable is that of none
-past-changed : (s : State) (n : ℕ) (v : Variable) → next s ≤ n → with_variable s n v ≡ s
+pub past-changed : (s : State) (n : ℕ) (v : Variable) → next s ≤ n → with_variable s n v ≡ s
 past-changed s n v past = ap (with_all s) (set_past s.variables n v past)
 
 pub fixed-after : (s : State) (n : ℕ) (v : Variable) → IsState s → MaySettle s → held (bindings s) n ≡ None → IsFixed v → MaySettleAfter s (with_variable s n v)

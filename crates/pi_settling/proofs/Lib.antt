@@ -34,6 +34,8 @@ pub mod SettlingExamples
 pub mod StableExample
 pub mod CalmItems
 pub mod CalmLemmas
+pub mod CalmOutcomes
+pub mod CalmBinds
 pub mod CalmUnify
 pub mod CalmFollowed
 pub mod CalmGoals

@@ -81,9 +81,19 @@ WithoutConstraintsIsSettled = (before s : State) → IsState s → s.constraints
 
 -- ---- what goals leave may settle
 
--- Constraints, agents and variables after a unification: `UnifiedGrows`.
+-- as many variables, and all else as it was
+pub record KeepsTheRest (s r : State) : Type 0 where
+  pub many : next r ≡ next s
+  pub constraints : r.constraints ≡ s.constraints
+  pub agents : r.agents ≡ s.agents
+  pub waiting : r.waiting ≡ s.waiting
+
+-- so it is in every state
+abbrev pub UnifiedKeepsTheRest : Type 0
+UnifiedKeepsTheRest = (s r : State) (t u : Tree) → unified s t u ≡ Some r → KeepsTheRest s r
+
 abbrev pub UnifiedMaySettle : Type 0
-UnifiedMaySettle = (s r : State) (t u : Tree) → IsState s → MaySettle s → SpeaksBelow (next s) t → SpeaksBelow (next s) u → unified s t u ≡ Some r → MaySettle r
+UnifiedMaySettle = (s r : State) (t u : Tree) → IsState s → MaySettle s → unified s t u ≡ Some r → MaySettle r
 
 -- a state that a goal left may settle, and its agents and what waits are as they were
 pub record MaySettleAfter (s r : State) : Type 0 where

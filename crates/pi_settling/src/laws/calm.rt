@@ -1,5 +1,5 @@
 //! Laws of calm states.
-ghost use Rattle.pi_settling.specs.CalmLaws.{EmptyIsCalm, WithoutConstraintsIsCalm, StableIsCalm, CalmGoesByVariables, EventsKeepCalm, SettledIsCalm, NewVariablesAddUp, NewVariablesKeepCalm, SlotMakesVariables, EvaluationMakesVariables, EvaluationOfAllMakesVariables, EvaluationKeepsCalm, EvaluationOfAllKeepsCalm, CalmIsStable, CalmIsSettled, NewVariablesAreSettled, WithoutConstraintsIsSettled, UnifiedMaySettle, WithinMaySettle, NotinMaySettle, PostedMaySettle, ConfinedMaySettle, StableKeepsFollowed, SettledKeepsFollowed, WithinKeepsFollowed, NotinKeepsFollowed, PostedKeepsFollowed, ConfinedKeepsFollowed, ConstraintsKeepFollowed};
+ghost use Rattle.pi_settling.specs.CalmLaws.{EmptyIsCalm, WithoutConstraintsIsCalm, StableIsCalm, CalmGoesByVariables, EventsKeepCalm, SettledIsCalm, NewVariablesAddUp, NewVariablesKeepCalm, SlotMakesVariables, EvaluationMakesVariables, EvaluationOfAllMakesVariables, EvaluationKeepsCalm, EvaluationOfAllKeepsCalm, CalmIsStable, CalmIsSettled, NewVariablesAreSettled, WithoutConstraintsIsSettled, UnifiedKeepsTheRest, UnifiedMaySettle, WithinMaySettle, NotinMaySettle, PostedMaySettle, ConfinedMaySettle, StableKeepsFollowed, SettledKeepsFollowed, WithinKeepsFollowed, NotinKeepsFollowed, PostedKeepsFollowed, ConfinedKeepsFollowed, ConstraintsKeepFollowed};
 
 /// The empty state is calm, and one without constraints. Whether one is calm goes by its variables and its constraints alone.
 pub fn states_are_calm()
@@ -39,6 +39,7 @@ pub fn settling_adds_nothing()
 /// as they were. So it is of the state in which a labelling begins.
 pub fn goals_keep_settling()
     ensures unified { UnifiedMaySettle }
+    ensures rest { UnifiedKeepsTheRest }
     ensures within { WithinMaySettle }
     ensures notin { NotinMaySettle }
     ensures posted { PostedMaySettle }

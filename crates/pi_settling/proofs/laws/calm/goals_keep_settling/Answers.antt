@@ -1,4 +1,4 @@
-use Rattle.pi_settling.proofs.CalmUnify.{unified_may_settle}
+use Rattle.pi_settling.proofs.CalmUnify.{unified_may_settle, unified_keeps_the_rest}
 use Rattle.pi_settling.proofs.CalmGoals.{within_may_settle, notin_may_settle}
 use Rattle.pi_settling.proofs.CalmPosted.{posted_may_settle, confined_may_settle}
 use Rattle.pi_settling.proofs.laws.calm.goals_keep_settling.Goals as goal
@@ -17,3 +17,6 @@ returns-clause-posted c = posted_may_settle
 
 pub returns-clause-confined : goal.returns-clause-confined
 returns-clause-confined c = confined_may_settle
+
+pub returns-clause-rest : goal.returns-clause-rest
+returns-clause-rest c = unified_keeps_the_rest
