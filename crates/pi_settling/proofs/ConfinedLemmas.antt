@@ -47,7 +47,7 @@ one-bindings : (s : State) (x : Item) → bindings (confined_at s x) ≡ binding
 one-bindings s (Item.Var n) = default-bindings s n (variable s n) refl
 one-bindings s (Item.Int i) = refl
 
-one-next : (s : State) (x : Item) → next (confined_at s x) ≡ next s
+pub one-next : (s : State) (x : Item) → next (confined_at s x) ≡ next s
 one-next s (Item.Var n) = default-next s n (variable s n)
 one-next s (Item.Int i) = refl
 
@@ -62,7 +62,7 @@ unfolding confined
 confining_binds_nothing s [] = refl
 confining_binds_nothing s (x ∷ xs) = confining_binds_nothing (confined_at s (root_item s x)) xs ∙ one-bindings s (root_item s x)
 
-all-keep : (s : State) (xs : List Item) (m : ℕ) (d : List Span) → domain_of s m ≡ Some d → domain_of (confined s xs) m ≡ Some d
+pub all-keep : (s : State) (xs : List Item) (m : ℕ) (d : List Span) → domain_of s m ≡ Some d → domain_of (confined s xs) m ≡ Some d
 unfolding confined
 all-keep s [] m d has = has
 all-keep s (x ∷ xs) m d has = all-keep (confined_at s (root_item s x)) xs m d (one-keeps s (root_item s x) m d has)

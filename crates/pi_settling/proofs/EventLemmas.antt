@@ -1,5 +1,5 @@
 -- Where nothing changed there are no events and nothing is lost.
-use Rattle.std.specs.Prelude.{◌≡◌, ℕ, suc, ◌+◌, ◌<◌, ℤ, Bool, true, false, not, cond, nat_le, IsTrue, List, [], ◌∷◌, length, map, filter, get_or, Some, None, Contains, refl}
+use Rattle.std.specs.Prelude.{◌≡◌, ℕ, suc, ◌+◌, ◌<◌, ◌≤◌, ℤ, Bool, true, false, not, cond, nat_le, IsTrue, List, [], ◌∷◌, length, map, filter, get_or, Some, None, Contains, refl}
 use Rattle.std.specs.Ordering.{is_eq, int_cmp}
 use Rattle.std.proofs.Common.{arith, sym, ◌∙◌, ap, subst}
 use Rattle.std.proofs.lemmas.Int.{ints}
@@ -59,7 +59,7 @@ since-none s n st l (bound t) is = refl
 
 -- ---- all of them, from one on
 
-from-none : (s : State) → IsState s → (n : ℕ) (vs : List Variable) → n + length vs ≡ next s → ((k : ℕ) → k < length vs → get_or vs k free ≡ variable s (n + k)) → events_from s n vs ≡ []
+pub from-none : (s : State) → IsState s → (n : ℕ) (vs : List Variable) → n + length vs ≤ next s → ((k : ℕ) → k < length vs → get_or vs k free ≡ variable s (n + k)) → events_from s n vs ≡ []
 unfolding events_from
 from-none s st n [] count same = refl
 from-none s st n (v ∷ vs) count same =

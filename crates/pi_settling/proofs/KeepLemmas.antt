@@ -73,7 +73,7 @@ stable_is_a_state s r is f =
 -- ---- which may settle
 
 -- an item that settling may go on with
-abbrev MayCome : State → Item → Type 0
+abbrev pub MayCome : State → Item → Type 0
 MayCome s x = ((n : ℕ) × (d : List Span) × (x ≡ Item.Var n) × (domain_of s n ≡ Some d)) ⊎ ((i : ℤ) × (x ≡ Item.Int i) × IsWithinBounds i)
 
 narrowed-comes : (s r : State) → IsState r → (n : ℕ) (v w : Variable) (d : List Span) → Narrows s n v w → variable r n ≡ w → domain_in v ≡ Some d → MayCome r (root_item r (Item.Var n))

@@ -117,7 +117,7 @@ pub record GoesOnFrom (s : State) : Type 0 where
   pub agents : s.agents ≡ []
   pub waiting : s.waiting ≡ []
 
-none-woken : (s : State) (es : List Event) → s.agents ≡ [] → activations s es ≡ []
+pub none-woken : (s : State) (es : List Event) → s.agents ≡ [] → activations s es ≡ []
 unfolding activations activations_from
 none-woken s [] none = refl
 none-woken s (e ∷ es) none =

@@ -37,3 +37,15 @@ pub mod LoadLemmas
 pub mod AnswerLemmas
 pub mod SettlingExamples
 pub mod StableExample
+pub mod CalmItems
+pub mod CalmLemmas
+pub mod CalmOutcomes
+pub mod CalmBinds
+pub mod CalmUnify
+pub mod CalmFollowed
+pub mod CalmGoals
+pub mod CalmReads
+pub mod CalmTruths
+pub mod CalmTerms
+pub mod CalmPosted
+pub mod CalmEvents

@@ -1,7 +1,7 @@
--- Settling a state from itself has no load where nothing is lost.
+-- Settling a state has no load where its variables and its constraints are those that were, and nothing is lost.
 use Rattle.std.specs.Prelude.{◌≡◌, ℕ, suc, ◌+◌, ◌-◌, ◌<◌, true, false, nat_le, List, [], ◌∷◌, ◌++◌, length, get_or, sum_by, refl}
 use Rattle.std.specs.List.{list_any}
-use Rattle.std.proofs.Common.{arith, sym, ap, inr, append-nil}
+use Rattle.std.proofs.Common.{arith, sym, ◌∙◌, ap, subst, inr, append-nil}
 use Rattle.std.proofs.lemmas.Bool.Decides.{nat_tests}
 use Rattle.pi_constraints.specs.declared.constraint.Constraint.{Constraint}
 use Rattle.pi_constraints.specs.declared.constraint.Item.{Item}
@@ -30,26 +30,31 @@ not-another free = refl
 not-another (within d) = rw (same-itself d) refl
 not-another (bound t) = refl
 
-not-changed : (s : State) (x : Item) → has_changed s s x ≡ false
-not-changed s (Item.Var n) = not-another (get_or s.variables n free)
-not-changed s (Item.Int i) = refl
+-- the same variables
+abbrev pub HaveSameVariables : State → State → Type 0
+HaveSameVariables before s = (n : ℕ) → get_or s.variables n free ≡ get_or before.variables n free
 
-none-changed : (s : State) (xs : List Item) → list_any (λ x. has_changed s s (root_item s x)) xs ≡ false
-none-changed s [] = refl
-none-changed s (x ∷ xs) = rw (not-changed s (root_item s x)) (none-changed s xs)
+not-changed : (before s : State) → HaveSameVariables before s → (x : Item) → has_changed before s x ≡ false
+not-changed before s same (Item.Var n) =
+    subst (λ (v : Variable). is_another (get_or before.variables n free) v ≡ false) (sym (same n)) (not-another (get_or before.variables n free))
+not-changed before s same (Item.Int i) = refl
+
+none-changed : (before s : State) → HaveSameVariables before s → (xs : List Item) → list_any (λ x. has_changed before s (root_item before x)) xs ≡ false
+none-changed before s same [] = refl
+none-changed before s same (x ∷ xs) = rw (not-changed before s same (root_item before x)) (none-changed before s same xs)
 
 old : (m n : ℕ) → n < m → nat_le m n ≡ false
 old m n l = grind (arith, nat_tests)
 
-not-due : (s : State) (i : ℕ) (c : Constraint) → i < length s.constraints → is_due s s i c ≡ false
-not-due s i c l = rw (old (length s.constraints) i l) (none-changed s (places_of c))
+not-due : (before s : State) → HaveSameVariables before s → (i : ℕ) (c : Constraint) → i < length before.constraints → is_due before s i c ≡ false
+not-due before s same i c l = rw (old (length before.constraints) i l) (none-changed before s same (places_of c))
 
-none-due : (s : State) (i : ℕ) (cs : List Constraint) → i + length cs ≡ length s.constraints → count_due s s i cs ≡ 0
+none-due : (before s : State) → HaveSameVariables before s → (i : ℕ) (cs : List Constraint) → i + length cs ≡ length before.constraints → count_due before s i cs ≡ 0
 unfolding count_due
-none-due s i [] count = refl
-none-due s i (c ∷ cs) count =
-    let here : is_due s s i c ≡ false = not-due s i c (omega arith) in
-    let rest : count_due s s (suc i) cs ≡ 0 = none-due s (suc i) cs (omega arith) in
+none-due before s same i [] count = refl
+none-due before s same i (c ∷ cs) count =
+    let here : is_due before s i c ≡ false = not-due before s same i c (omega arith) in
+    let rest : count_due before s (suc i) cs ≡ 0 = none-due before s same (suc i) cs (omega arith) in
     rw (here, rest) refl
 
 sum-zero : {X : Type 0} (f : X → ℕ) → ((x : X) → f x ≡ 0) → (xs : List X) → sum_by f xs ≡ 0
@@ -59,18 +64,19 @@ sum-zero f all (x ∷ xs) = let here : f x ≡ 0 = all x in let rest : sum_by f 
 none-lost : (s : State) (c : Constraint) → count_lost s s c ≡ 0
 none-lost s c = sum-zero (λ x. count_values s x - count_values s x) (λ x. omega arith) (roots_of s (places_of c))
 
-no-load : (s : State) → load s s s ≡ 0
-no-load s =
-    let due : count_due s s 0 s.constraints ≡ 0 = none-due s 0 s.constraints (omega arith) in
+pub no-load : (before s : State) → HaveSameVariables before s → s.constraints ≡ before.constraints → load before s s ≡ 0
+no-load before s same posted =
+    let many : length s.constraints ≡ length before.constraints = ap length posted in
+    let due : count_due before s 0 s.constraints ≡ 0 = none-due before s same 0 s.constraints (omega (arith, many)) in
     let lost : sum_by (count_lost s s) s.constraints ≡ 0 = sum-zero (count_lost s s) (none-lost s) s.constraints in
-    omega arith
+    omega (arith, due, lost)
 
-nothing-waits : (s : State) (es : List Event) → es ≡ [] → s.waiting ++ activations s es ≡ s.waiting
+pub nothing-waits : (before s : State) → events_between before s ≡ [] → with_events before s ≡ s
 unfolding activations
-nothing-waits s es e = rw e (append-nil s.waiting)
+nothing-waits before s none = same_states (with_events before s) s refl refl refl (ap (λ (es : List Event). s.waiting ++ activations s es) none ∙ append-nil s.waiting)
 
 pub settling_twice_is_once : SettlingTwiceIsOnce
 unfolding loaded
 settling_twice_is_once s r is is' may f =
-    let same : with_events r r ≡ r = same_states (with_events r r) r refl refl refl (nothing-waits r (events_between r r) (no_change_no_events r is')) in
-    inr (r, stable_stays_stable s r is is' may f, rw (no-load r) (ap one (sym same)))
+    let same : with_events r r ≡ r = nothing-waits r r (no_change_no_events r is') in
+    inr (r, stable_stays_stable s r is is' may f, rw (no-load r r (λ n. refl) refl) (ap one (sym same)))

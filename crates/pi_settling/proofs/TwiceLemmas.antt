@@ -71,7 +71,7 @@ stable-items s r a f n is = item_by (bindings r) n a (at_held r n (elim (less_or
 
 -- ---- the domains that are left
 
-all-domain : IsDomain all_values
+pub all-domain : IsDomain all_values
 unfolding AscendFrom
 all-domain = (omega (arith, ints), omega (arith, ints), omega (arith, ints), tt)
 
@@ -216,7 +216,7 @@ ahead-below s r a f = record { domains = λ x. left-domain s r f (root_item r x)
 ahead-unchanged : (s r : State) → IsAcyclic (bindings r) → MaySettle s → IsStable s r → NoFilterChanges s (ahead r)
 ahead-unchanged s r a may f = stable_is_unchanged s (ahead r) (ahead-below s r a f) (λ x i counts st. (ahead-stays s r x i a may f counts).1 st) (λ x i counts h. (ahead-stays s r x i a may f counts).0 h)
 
-same_map : (f g : Item → List Span) → ((x : Item) → f x ≡ g x) → (xs : List Item) → map f xs ≡ map g xs
+pub same_map : (f g : Item → List Span) → ((x : Item) → f x ≡ g x) → (xs : List Item) → map f xs ≡ map g xs
 same_map f g same [] = refl
 same_map f g same (x ∷ xs) =
     let here : f x ≡ g x = same x in
@@ -230,7 +230,7 @@ same-places : (s r : State) (c : Constraint) → IsState s → IsState r → IsS
 unfolding ahead
 same-places s r c is is' f = same_map (λ x. left r (root_item r (root_item s x))) (λ x. left r (root_item r x)) (λ x. ap (left r) (later-root s r is is' f x)) (places_of c)
 
-left-unchanged : (s r : State) → IsState s → IsState r → MaySettle s → IsStable s r → NoFilterChanges r (left r)
+pub left-unchanged : (s r : State) → IsState s → IsState r → MaySettle s → IsStable s r → NoFilterChanges r (left r)
 left-unchanged s r is is' may f c k i posted l h =
     let same : at_places s (ahead r) c ≡ at_places r (left r) c = same-places s r c is is' f in
     let before : Contains s.constraints c = subst (λ (cs : List Constraint). Contains cs c) f.constraints posted in

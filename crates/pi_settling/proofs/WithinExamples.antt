@@ -1,5 +1,5 @@
 -- `::` and `notin`, worked through the definitions.
-use Rattle.std.specs.Prelude.{◌≡◌, ℕ, ◌^◌, ◌-◌, pos, [], ◌∷◌, codes, refl}
+use Rattle.std.specs.Prelude.{◌≡◌, ℕ, ◌^◌, ◌-◌, pos, [], ◌∷◌, Some, codes, refl}
 use Rattle.pi_terms.specs.Tree.{Tree, var, int, atom, comp, trees_of, cells}
 use Rattle.pi_terms.specs.Substitution.{instance}
 use Rattle.pi_constraints.specs.declared.domain.Span.{Span}
@@ -12,7 +12,7 @@ use Rattle.pi_effects.specs.Items.{each_tree, list_onto, list_of, array_of, item
 use Rattle.pi_settling.specs.Asked.{flat_for, flat_all}
 use Rattle.pi_settling.specs.Values.{ahead_of, with_value, domain_of_values, gaps_from, numbers_by}
 use Rattle.pi_settling.specs.RightSide.{integers_of, right_side, domain_too_wide}
-use Rattle.pi_settling.specs.Within.{each_item, within_goal, notin_goal}
+use Rattle.pi_settling.specs.Within.{kept_in, each_item, within_goal, notin_goal}
 
 abbrev n : ℕ → Tree
 n k = int (pos k)
@@ -85,3 +85,7 @@ passed-over : does (notin_goal state (n (2 ^ 56)) (list_of (n (2 ^ 56) ∷ [])))
     × does (notin_goal state (var 1) (up_to (n 3) (n (2 ^ 56)))) (Succeeds (a_state free (within (span 1 2 ∷ []))))
 unfolding does
 passed-over = (refl, refl)
+
+-- a variable that is bound stays as it is, whatever the domain
+bound-stays : kept_in (span 1 3 ∷ []) state 2 ≡ Some state
+bound-stays = refl

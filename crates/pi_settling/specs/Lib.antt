@@ -10,6 +10,7 @@ pub mod Options
 pub mod Asked
 pub mod Confined
 pub mod Calm
+pub mod CalmLaws
 pub mod Choices
 pub mod Label
 pub mod Reading

@@ -2,6 +2,7 @@
 -- the values of its domain that D has, or those that D lacks. Nothing is posted. (A User's Guide to Picat, 'Constraints'; exceptions are own.)
 use Rattle.std.specs.Prelude.{ℕ, Bool, true, false, not, cond, List, [], ◌∷◌, Option, Some, None, option_and_then, Ok, Err, codes}
 use Rattle.pi_terms.specs.Tree.{Tree}
+use Rattle.pi_terms.specs.Places.{held}
 use Rattle.pi_constraints.specs.declared.domain.Span.{Span}
 use Rattle.pi_constraints.specs.declared.constraint.Item.{Item}
 use Rattle.pi_constraints.specs.Domain.{has_value, common}
@@ -15,9 +16,14 @@ use Rattle.pi_settling.specs.Choices.{narrowed_to}
 use Rattle.pi_settling.specs.Values.{all_but}
 use Rattle.pi_settling.specs.RightSide.{side_domain}
 
+-- a variable that is bound stays as it is
+abbrev pub unless_bound : State → Option Tree → Option State → Option State
+unless_bound s None o = o
+unless_bound s (Some t) o = Some s
+
 -- a variable keeps the values that a domain has: with none there is no answer, with one it is bound to it. A variable without a domain has all values before.
 abbrev pub kept_in : List Span → State → ℕ → Option State
-kept_in d s n = narrowed_to s n (common (given s (Item.Var n)) d)
+kept_in d s n = unless_bound s (held (bindings s) n) (narrowed_to s n (common (given s (Item.Var n)) d))
 
 abbrev pub only_where : Bool → State → Option State
 only_where b s = cond b (Some s) None

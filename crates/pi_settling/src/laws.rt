@@ -1,5 +1,6 @@
 //! Laws of the definitions, each a clause of a function that does nothing.
 pub mod agents;
+pub mod calm;
 pub mod domains;
 pub mod labelling;
 pub mod runs;
