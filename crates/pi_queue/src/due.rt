@@ -5,9 +5,9 @@ use std::alloc::{AllocError, Global};
 use std::collections::{BTreeSet, VecDeque};
 use std::marker::Model;
 
-/// Numbers of constraints that wait, each once, the one that waits longest first. A contract sees the list of them.
+/// Numbers of constraints that wait, each once, the one that waits longest first. A contract sees the list of them. (Own.)
 #[derive(Drop)]
-pub(crate) struct Due {
+pub struct Due {
     queue: VecDeque<u64>,
     waiting: BTreeSet<u64>,
 }
@@ -27,7 +27,7 @@ impl Model for Due {
 
 impl Due {
     /// None.
-    pub(crate) fn new(alloc: Global) -> Due
+    pub fn new(alloc: Global) -> Due
         ensures { result ≡ [] }
     {
         Due {
@@ -37,7 +37,7 @@ impl Due {
     }
 
     /// Takes the one that waits longest.
-    pub(crate) fn take(&mut self) -> Option<u64>
+    pub fn take(&mut self) -> Option<u64>
         ensures first { MatchOption result (self.old ≡ []) (λ i. self.old ≡ i ∷ self.new) }
         ensures different { AllPairs (λ i j. i ≢ j) self.old }
     {
@@ -51,7 +51,7 @@ impl Due {
     }
 
     /// Puts one behind the others, where it doesn't wait yet.
-    pub(crate) fn add(&mut self, i: u64) -> Result<(), AllocError>
+    pub fn add(&mut self, i: u64) -> Result<(), AllocError>
         ensures there { IfOk result (λ _. Contains self.old i → self.new ≡ self.old) }
         ensures new { IfOk result (λ _. (Contains self.old i → ⊥) → self.new ≡ self.old ++ i ∷ []) }
     {

@@ -17,6 +17,8 @@ mod turn;
 mod waking;
 
 pub use changes::changed;
+pub use due::Due;
 pub use held_places::HeldPlaces;
 pub use pi_settling::PropStop;
 pub use propagation::{propagate, propagate_from};
+pub use waking::wake;

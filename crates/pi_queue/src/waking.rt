@@ -9,8 +9,8 @@ use crate::due::Due;
 use pi_constraints::StateStore;
 use std::alloc::{AllocError, Global};
 
-/// Puts the constraints of variables behind those that wait, each that doesn't wait yet, once.
-pub(crate) fn wake<S: StateStore>(
+/// Puts the constraints of variables after those that wait, each that doesn't wait yet, once. (Own.)
+pub fn wake<S: StateStore>(
     alloc: Global,
     s: &S,
     variables: &[u64],

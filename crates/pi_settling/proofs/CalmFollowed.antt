@@ -16,7 +16,7 @@ use Rattle.pi_settling.specs.Load.{load, load_of_failure}
 use Rattle.pi_settling.specs.Settled.{loaded, with_events, IsSettled}
 use Rattle.pi_settling.specs.Confined.{confined}
 use Rattle.pi_settling.specs.Posted.{with_constraints}
-use Rattle.pi_settling.specs.CalmLaws.{FollowedStay, StableKeepsFollowed, SettledKeepsFollowed, ConfinedKeepsFollowed, ConstraintsKeepFollowed}
+use Rattle.pi_settling.specs.CalmLaws.{FollowedStay, StableKeepsFollowed, SettledKeepsFollowed, NewVariablesKeepFollowed, ConfinedKeepsFollowed, ConstraintsKeepFollowed}
 use Rattle.pi_settling.proofs.RootLemmas.{Kept}
 use Rattle.pi_settling.proofs.TwiceLemmas.{stable-keeps}
 use Rattle.pi_settling.proofs.ConfinedLemmas.{confining_binds_nothing}
@@ -76,8 +76,8 @@ changed-stay s n v none = followed-stay s (with_variable s n v) (omega (arith, c
 pub news-held : (k : ℕ) (s : State) (n : ℕ) → held (bindings (with_new_variables k s)) n ≡ held (bindings s) n
 news-held k s n = held_is (with_new_variables k s) n ∙ (ap binding (news-at k s n) ∙ sym (held_is s n))
 
-pub news-stay : (k : ℕ) (s : State) → FollowedStay s (with_new_variables k s)
-news-stay k s = followed-stay s (with_new_variables k s) (omega (arith, news-next k s)) (λ n u is. news-held k s n ∙ is)
+pub new_variables_keep_followed : NewVariablesKeepFollowed
+new_variables_keep_followed k s = followed-stay s (with_new_variables k s) (omega (arith, news-next k s)) (λ n u is. news-held k s n ∙ is)
 
 -- ---- domains and constraints
 

@@ -146,12 +146,12 @@ kept-by d s n m None up is may none same =
     values-fixed (MaySettleAfter s) s n e (values_of e) m (λ v fixed. fixed-after s n v is may none fixed) there refl same
 kept-by d s n m (Some t) up is may at same = let here : s ≡ m = cc in subst (MaySettleAfter s) here (after-none s is may)
 
-only-is : (b : Bool) (s m : State) → only_where b s ≡ Some m → s ≡ m
+pub only-is : (b : Bool) (s m : State) → only_where b s ≡ Some m → s ≡ m
 only-is true s m same = cc
 only-is false s m same = absurd cc
 
 -- a step of a goal, by item
-abbrev Step : Type 0
+abbrev pub Step : Type 0
 Step = State → Item → Option State
 
 abbrev StepSettles : Step → Type 0
@@ -218,17 +218,17 @@ side-domain strict ball (Some (these is)) e same = unless-domain strict (list_al
 -- ---- the goals
 
 -- a goal that left a state went through its items
-record Went (s r : State) (a : Answer (List Span)) (f : List Span → Step) : Type 0 where
-  domain : List Span
-  items : List Item
-  judged : a ≡ Ok domain
-  left : each_item (f domain) items s ≡ Some r
+pub record Went (s r : State) (a : Answer (List Span)) (f : List Span → Step) : Type 0 where
+  pub domain : List Span
+  pub items : List Item
+  pub judged : a ≡ Ok domain
+  pub left : each_item (f domain) items s ≡ Some r
 
 succeeded : (o : Option State) (r : State) → succeeds_in o ≡ Succeeds r → o ≡ Some r
 succeeded None r same = absurd cc
 succeeded (Some q) r same = cc
 
-went : (s r : State) (t : Tree) (a : Answer (List Span)) (f : List Span → Step) → by_domain s t a f ≡ Succeeds r → Went s r a f
+pub went : (s r : State) (t : Tree) (a : Answer (List Span)) (f : List Span → Step) → by_domain s t a f ≡ Succeeds r → Went s r a f
 went s r t (Err ball) f same = absurd cc
 went s r t (Ok d) f same = by (flat_items (bindings s) t) same
   where

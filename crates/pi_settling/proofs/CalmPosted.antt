@@ -36,7 +36,7 @@ use Rattle.pi_settling.proofs.TwiceLemmas.{past_free, all-domain, unbound-root}
 use Rattle.pi_settling.proofs.KeepLemmas.{MayCome}
 use Rattle.pi_settling.proofs.ConfinedLemmas.{one-next, all-keep, root-same, confining_binds_nothing, confined_have_domains}
 use Rattle.pi_settling.proofs.CalmItems.{like-comes, news-like}
-use Rattle.pi_settling.proofs.CalmFollowed.{stay-then, news-stay, news-held, with-variables, constraints_keep_followed, confined_keeps_followed}
+use Rattle.pi_settling.proofs.CalmFollowed.{stay-then, new_variables_keep_followed, news-held, with-variables, constraints_keep_followed, confined_keeps_followed}
 use Rattle.pi_settling.proofs.CalmGoals.{left_with, fixed-keeps-state}
 use Rattle.pi_settling.proofs.CalmReads.{ItemOnly, PlacesOnly, Each, each-append, AllOnly}
 use Rattle.pi_settling.proofs.CalmTerms.{TermOnly, goal-reads}
@@ -322,5 +322,5 @@ posted_keeps_followed s r t same =
     let made : (p : Posting) × (posting_in s t ≡ Ok p) × (posted_in s p ≡ r) = posting-is s r (posting_in s t) same in
     let p : Posting = made.0 in
     subst (FollowedStay s) made.2
-    (stay-then s (with_new_variables p.fresh s) (posted_in s p) (news-stay p.fresh s)
+    (stay-then s (with_new_variables p.fresh s) (posted_in s p) (new_variables_keep_followed p.fresh s)
     (stay-then (with_new_variables p.fresh s) (before_domains s p) (posted_in s p) (constraints_keep_followed (with_new_variables p.fresh s) p.list) (confined_keeps_followed (before_domains s p) (places_of_all p.list))))

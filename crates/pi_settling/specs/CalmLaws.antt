@@ -138,6 +138,9 @@ NotinKeepsFollowed = (s r : State) (t u : Tree) → notin_goal s t u ≡ Succeed
 abbrev pub PostedKeepsFollowed : Type 0
 PostedKeepsFollowed = (s r : State) (t : Tree) → posting_goal s t ≡ Succeeds r → FollowedStay s r
 
+abbrev pub NewVariablesKeepFollowed : Type 0
+NewVariablesKeepFollowed = (k : ℕ) (s : State) → FollowedStay s (with_new_variables k s)
+
 abbrev pub ConfinedKeepsFollowed : Type 0
 ConfinedKeepsFollowed = (s : State) (items : List Item) → FollowedStay s (confined s items)
 

@@ -1,5 +1,5 @@
 //! Laws of calm states.
-ghost use Rattle.pi_settling.specs.CalmLaws.{EmptyIsCalm, WithoutConstraintsIsCalm, StableIsCalm, CalmGoesByVariables, EventsKeepCalm, SettledIsCalm, NewVariablesAddUp, NewVariablesKeepCalm, SlotMakesVariables, EvaluationMakesVariables, EvaluationOfAllMakesVariables, EvaluationKeepsCalm, EvaluationOfAllKeepsCalm, CalmIsStable, CalmIsSettled, NewVariablesAreSettled, WithoutConstraintsIsSettled, UnifiedKeepsTheRest, UnifiedMaySettle, WithinMaySettle, NotinMaySettle, PostedMaySettle, ConfinedMaySettle, StableKeepsFollowed, SettledKeepsFollowed, WithinKeepsFollowed, NotinKeepsFollowed, PostedKeepsFollowed, ConfinedKeepsFollowed, ConstraintsKeepFollowed};
+ghost use Rattle.pi_settling.specs.CalmLaws.{EmptyIsCalm, WithoutConstraintsIsCalm, StableIsCalm, CalmGoesByVariables, EventsKeepCalm, SettledIsCalm, NewVariablesAddUp, NewVariablesKeepCalm, SlotMakesVariables, EvaluationMakesVariables, EvaluationOfAllMakesVariables, EvaluationKeepsCalm, EvaluationOfAllKeepsCalm, CalmIsStable, CalmIsSettled, NewVariablesAreSettled, WithoutConstraintsIsSettled, UnifiedKeepsTheRest, UnifiedMaySettle, WithinMaySettle, NotinMaySettle, PostedMaySettle, ConfinedMaySettle, StableKeepsFollowed, SettledKeepsFollowed, WithinKeepsFollowed, NotinKeepsFollowed, PostedKeepsFollowed, NewVariablesKeepFollowed, ConfinedKeepsFollowed, ConstraintsKeepFollowed};
 
 /// The empty state is calm, and one without constraints. Whether one is calm goes by its variables and its constraints alone.
 pub fn states_are_calm()
@@ -54,6 +54,7 @@ pub fn followed_terms_stay()
     ensures within { WithinKeepsFollowed }
     ensures notin { NotinKeepsFollowed }
     ensures posted { PostedKeepsFollowed }
+    ensures new { NewVariablesKeepFollowed }
     ensures confined { ConfinedKeepsFollowed }
     ensures constraints { ConstraintsKeepFollowed }
 {}

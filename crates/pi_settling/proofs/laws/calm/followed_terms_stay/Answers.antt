@@ -1,4 +1,4 @@
-use Rattle.pi_settling.proofs.CalmFollowed.{stable_keeps_followed, settled_keeps_followed, confined_keeps_followed, constraints_keep_followed}
+use Rattle.pi_settling.proofs.CalmFollowed.{stable_keeps_followed, settled_keeps_followed, new_variables_keep_followed, confined_keeps_followed, constraints_keep_followed}
 use Rattle.pi_settling.proofs.CalmGoals.{within_keeps_followed, notin_keeps_followed}
 use Rattle.pi_settling.proofs.CalmPosted.{posted_keeps_followed}
 use Rattle.pi_settling.proofs.laws.calm.followed_terms_stay.Goals as goal
@@ -23,3 +23,6 @@ returns-clause-confined c = confined_keeps_followed
 
 pub returns-clause-constraints : goal.returns-clause-constraints
 returns-clause-constraints c = constraints_keep_followed
+
+pub returns-clause-new : goal.returns-clause-new
+returns-clause-new c = new_variables_keep_followed

@@ -1,0 +1,6 @@
+pub mod AddLemmas
+pub mod DueLemmas
+pub mod EndLemmas
+pub mod FollowLemmas
+pub mod MemberLemmas
+pub mod MarkLemmas

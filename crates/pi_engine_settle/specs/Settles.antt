@@ -1,0 +1,32 @@
+-- What the propagation after a goal comes to. (Own.)
+use Rattle.std.specs.Prelude.{◌≡◌, ◌≢◌, ℕ, ◌+◌, ◌≤◌, List, []}
+use Rattle.pi_core.specs.declared.log.Work.{Work}
+use Rattle.pi_constraints.specs.State.{State}
+use Rattle.pi_settling.specs.Stable.{IsStable, IsEmptied}
+use Rattle.pi_settling.specs.Load.{load, load_of_failure}
+use Rattle.pi_settling.specs.Runs.{work_of}
+use Rattle.pi_queue.specs.Ends.{Worked}
+use Rattle.pi_engine_settle.specs.declared.propagating.Settled.{Settled}
+
+-- the stable domains stand, and the runs are no more than the load
+pub record HasSettled (before s r : State) (old new : Work) : Type 0 where
+  pub stable : IsStable s r
+  pub runs : new.runs ≤ old.runs + load before s r
+
+-- one of the stable domains is empty, and the runs are no more than the load
+pub record HasLost (before s : State) (old new : Work) : Type 0 where
+  pub emptied : IsEmptied s
+  pub runs : new.runs ≤ old.runs + load_of_failure before s
+
+-- a constraint was due, and the work has reached its limit, just so where it was within it
+pub record HasStopped (due : List ℕ) (limit : ℕ) (old new : Work) : Type 0 where
+  pub some : due ≢ []
+  pub spent : limit ≤ work_of new
+  pub just : work_of old ≤ limit → work_of new ≡ limit
+
+-- What the propagation in a state comes to that a goal left which began in another, where these constraints are due: by the work before and after, what
+-- stands then, and how it ended.
+abbrev pub ComesTo : State → State → List ℕ → Worked → State → Settled → Type 0
+ComesTo before s due w r Settled.Left = HasSettled before s r w.old w.new
+ComesTo before s due w r Settled.Lost = HasLost before s w.old w.new
+ComesTo before s due w r Settled.Spent = HasStopped due w.limit w.old w.new
