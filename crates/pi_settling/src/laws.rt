@@ -2,5 +2,6 @@
 pub mod agents;
 pub mod domains;
 pub mod labelling;
+pub mod names;
 pub mod runs;
 pub mod settling;
