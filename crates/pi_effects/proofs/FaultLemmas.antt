@@ -1,13 +1,13 @@
 -- Faults and results, handed on.
 use Rattle.std.proofs.Common.{◌≡◌, ℤ, Some, None, Ok, Err, refl, ap, sym, subst, ◌∙◌}
-use Rattle.std.specs.Prelude.{Result, Option, pos}
+use Rattle.std.specs.Prelude.{Result, Option, pos, codes}
 use Rattle.pi_effects.specs.Range.{Outcome}
 use Rattle.pi_effects.specs.declared.arith_fault.ArithFault.{ArithFault}
 use Rattle.pi_terms.specs.Tree.{Tree, int}
 use Rattle.pi_constraints.specs.State.{State, bindings, followed}
 use Rattle.pi_constraints.specs.Store.{StoreView, Stays}
 use Rattle.pi_constraints.specs.declared.store.Ref.{Ref}
-use Rattle.pi_effects.specs.Exception.{thrown, bad_index, bad_format, type_error}
+use Rattle.pi_effects.specs.Exception.{thrown, exception_with, bad_index, bad_format, type_error}
 use Rattle.pi_effects.specs.Answer.{Answer, found_or, integer_at, integer_then, integers_then}
 use Rattle.pi_effects.specs.BuiltIns.{answer_in}
 use Rattle.pi_effects.specs.Integers.{outcome_then, fault_term}
@@ -31,6 +31,9 @@ ball-stays v w Fault.BadRange ball stays told = told
 ball-stays v w Fault.RangeTooLong ball stays told = told
 ball-stays v w Fault.TermTooLarge ball stays told = told
 ball-stays v w (Fault.Arithmetic fault) ball stays told = told
+ball-stays v w (Fault.NotAConstraint r) ball stays told = tells-stays v w r (exception_with (codes "not_a_constraint")) ball stays told
+ball-stays v w Fault.ConstraintTooLarge ball stays told = told
+ball-stays v w Fault.DomainTooWide ball stays told = told
 ball-stays v w (Fault.Thrown r) ball stays told = tells-stays v w r thrown ball stays told
 
 -- ---- what stops a part stops the whole

@@ -30,6 +30,9 @@ pub fn ball_of<S: StateStore>(alloc: Global, s: &S, fault: Fault) -> Result<Term
         Fault::RangeTooLong => Ok(Term::atom(alloc, "range_too_long")?),
         Fault::TermTooLarge => Ok(too_large(alloc)?),
         Fault::Arithmetic(fault) => Ok(arithmetic(alloc, fault)?),
+        Fault::NotAConstraint(term) => Ok(exception(alloc, s, "not_a_constraint", term)?),
+        Fault::ConstraintTooLarge => Ok(Term::atom(alloc, "constraint_too_large")?),
+        Fault::DomainTooWide => Ok(Term::atom(alloc, "domain_too_wide")?),
         Fault::Thrown(term) => Ok(thrown_term(alloc, s, term)?),
     }
 }
@@ -93,6 +96,7 @@ fn name_of(kind: Kind) -> &'static str
         Kind::Collection => "collection",
         Kind::Callable => "callable",
         Kind::Pair => "array",
+        Kind::Domain => "domain",
     }
 }
 

@@ -19,6 +19,8 @@ pub enum Kind {
     Callable,
     /// An array of two items.
     Pair,
+    /// A variable with a domain or an integer; or what values of domains are given by.
+    Domain,
 }
 
 /// What a built-in raises: a copy of a term is made of it only where it is needed. A `Ref` is that of the term which is told.
@@ -41,6 +43,12 @@ pub enum Fault {
     TermTooLarge,
     /// An operation on integers has no value.
     Arithmetic(ArithFault),
+    /// The term can't stand where it does in a constraint: `not_a_constraint(T)`.
+    NotAConstraint(Ref),
+    /// A constraint is past a limit: `constraint_too_large`.
+    ConstraintTooLarge,
+    /// A value that no domain can have: `domain_too_wide`.
+    DomainTooWide,
     /// `throw`: the term itself.
     Thrown(Ref),
 }

@@ -1,5 +1,5 @@
 -- What goals post, by what their parts come to.
-use Rattle.std.specs.Prelude.{◌≡◌, ℕ, Some, List, Result, Ok, refl}
+use Rattle.std.specs.Prelude.{◌≡◌, ℕ, Some, List, Result, Ok, Err, refl}
 use Rattle.std.proofs.Common.{◌∙◌, ap, sym, subst}
 use Rattle.pi_terms.specs.Tree.{Tree}
 use Rattle.pi_constraints.specs.declared.constraint.Item.{Item}
@@ -12,7 +12,7 @@ use Rattle.pi_prop_spec.specs.Terms.{goal_of}
 use Rattle.pi_prop_spec.specs.Steps.{Refusal, Made, Known, Reading, gives, after, then, posting}
 use Rattle.pi_prop_spec.specs.Lists.{read_item, read_each, read_collection, posts_element}
 use Rattle.pi_prop_spec.specs.Limits.{first_refusal}
-use Rattle.pi_prop_spec.specs.Postings.{read_goal, posting_unless, finished, nothing_made, posting_in}
+use Rattle.pi_prop_spec.specs.Postings.{read_goal, posting_unless, finished, nothing_made, posting_of, posting_in}
 use Rattle.pi_prop_made.specs.declared.making.Making.{Making}
 use Rattle.pi_prop_made.specs.Making.{Shows, Reads, with_constraint}
 use Rattle.pi_prop_read.specs.declared.operands.stop.OperandStop.{OperandStop}
@@ -23,6 +23,9 @@ use Rattle.pi_prop_read.specs.GoalNodes.{goal_at}
 use Rattle.pi_prop_read.specs.Items.{gives_all, read_listed}
 use Rattle.pi_prop_read.specs.Goals.{ShowsGoal}
 use Rattle.pi_prop_read.specs.Faults.{Stops}
+use Rattle.pi_prop_read.specs.declared.called.PostingGoal.{PostingGoal}
+use Rattle.pi_prop_read.specs.declared.called.PostingStop.{PostingStop}
+use Rattle.pi_prop_read.specs.Called.{goal_as, posting_stop, ShowsCalled}
 
 -- a refusal of a part is one of the whole
 pub refused-then : {A B : Type 0} (w : Moment) (stop : OperandStop) (o : Result (Known A) Refusal) (f : A → Reading B) → Refuses w stop o → Refuses w stop (after o f)
@@ -108,3 +111,21 @@ stops-as w OperandStop.Memory n o h = tt
 
 pub finished-as : (n : ℕ) (r : Reading (Unit {0})) (done : Unit {0}) (new : Making) → (h : Reads r (nothing_made n) done new) → finished n (r (nothing_made n)) ≡ posting_unless (first_refusal h.made.constraints) n h.made
 finished-as n r done new h = ap (finished n) h.is
+
+-- ---- a goal by its kind and its arguments
+
+pub called-as : (w : Moment) (goal known : PostingGoal) (m : Made) (new : Making) (result : Result (Unit {0}) OperandStop) → goal ≡ known → ShowsGoal w (read_goal (goal_as w known)) m new result → ShowsGoal w (read_goal (goal_as w goal)) m new result
+called-as w goal known m new result e s = subst (λ x. ShowsGoal w (read_goal (goal_as w x)) m new result) (sym e) s
+
+pub posting-for : (x : Goal) (n k : ℕ) → n ≡ k → finished n (read_goal x (nothing_made n)) ≡ posting_of k x
+posting-for x n k e = ap (λ i. finished i (read_goal x (nothing_made i))) e
+
+stopped : (w : Moment) (stop : OperandStop) (n : ℕ) (o : Result (Known (Unit {0})) Refusal) → Refuses w stop o → ShowsCalled w (Err (posting_stop stop)) (finished n o)
+stopped w (OperandStop.NotLinear r) n o h = (h.0, ap (finished n) h.1)
+stopped w OperandStop.Wide n o h = ap (finished n) h
+stopped w OperandStop.Memory n o h = tt
+
+pub stops-so : (w : Moment) (stop : OperandStop) (told : PostingStop) (n : ℕ) (x : Goal) (k : ℕ) → n ≡ k → told ≡ posting_stop stop → Refuses w stop (read_goal x (nothing_made n)) → ShowsCalled w (Err told) (posting_of k x)
+stops-so w stop told n x k e is h =
+    subst (λ (p : PostingStop). ShowsCalled w (Err p) (posting_of k x)) (sym is)
+    (subst (ShowsCalled w (Err (posting_stop stop))) (posting-for x n k e) (stopped w stop n (read_goal x (nothing_made n)) h))

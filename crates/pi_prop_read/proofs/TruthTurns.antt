@@ -57,6 +57,28 @@ first-turn w a r m fs none here s l = subst (λ gs. IsTurn w a (TruthTurn.Read r
   goes = after_gives (read_truth (boolean_at w r) m);
 })
 
+-- an expression is read first, and then a frame comes
+pub turn-under : (w : Moment) (a : Making) (r : Ref) (f : TruthFrame) (m : Made) (fs gs : List TruthFrame) → fs ≡ [] → gs ≡ fs ++ f ∷ [] → IsThere w r → FrameIs w f → Shows a m → next w.state ≤ m.unused →
+    IsTurn w a (TruthTurn.Read r) gs (then (read_truth (boolean_at w r)) (come w f) m)
+unfolding back FramesAre
+turn-under w a r f m fs gs none more here frame s l = subst (λ hs. IsTurn w a (TruthTurn.Read r) hs (then (read_truth (boolean_at w r)) (come w f) m)) (sym (more ∙ ap (λ (hs : List TruthFrame). hs ++ f ∷ []) none)) (record {
+  made = m;
+  shown = s;
+  enough = l;
+  frames = (frame, tt);
+  is_here = here;
+  goes = refl;
+})
+
+pub as-negation : (w : Moment) (a : Making) (result : Result Item OperandStop) (b : Boolean) (m : Made) → ShowsMade w a result (then (read_truth b) (come w TruthFrame.Negation) m) → ShowsMade w a result (read_truth (negation b) m)
+unfolding read_truth
+as-negation w a result b m h = h
+
+pub as-joined : (w : Moment) (a : Making) (result : Result Item OperandStop) (k : Connective) (p q : Ref) (m : Made) → ShowsMade w a result (then (read_truth (boolean_at w p)) (come w (TruthFrame.Left k q)) m) →
+    ShowsMade w a result (read_truth (joined (connective_of k) (boolean_at w p) (boolean_at w q)) m)
+unfolding read_truth
+as-joined w a result k p q m h = h
+
 -- ---- an expression is begun
 
 as-boolean : (w : Moment) (a : Making) (r : Ref) (b : Boolean) (fs : List TruthFrame) (whole : Whole) → (t : IsTurn w a (TruthTurn.Read r) fs whole) → boolean_at w r ≡ b → after (read_truth b t.made) (back w fs) ≡ whole

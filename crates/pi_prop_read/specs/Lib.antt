@@ -9,4 +9,5 @@ pub mod Sums
 pub mod GoalNodes
 pub mod Items
 pub mod Goals
+pub mod Called
 pub mod Faults

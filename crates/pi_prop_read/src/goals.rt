@@ -3,7 +3,8 @@ ghost use Rattle.std.specs.Prelude.{◌≤◌};
 ghost use Rattle.pi_constraints.specs.State.{IsState, next};
 ghost use Rattle.pi_prop_spec.specs.Steps.{Made};
 ghost use Rattle.pi_prop_spec.specs.Relations.{posts_relation};
-ghost use Rattle.pi_prop_spec.specs.Truths.{posts_truth};
+ghost use Rattle.pi_prop_spec.specs.Operands.{Boolean};
+ghost use Rattle.pi_prop_spec.specs.Truths.{read_truth, posts_truth};
 ghost use Rattle.pi_prop_spec.specs.Lists.{posts_different, posts_distinct, posts_element};
 ghost use Rattle.pi_prop_spec.specs.Postings.{read_goal};
 ghost use Rattle.pi_prop_made.specs.Making.{Shows};
@@ -12,14 +13,18 @@ ghost use Rattle.pi_prop_read.specs.Relations.{comparison_of};
 ghost use Rattle.pi_prop_read.specs.TruthNodes.{boolean_at};
 ghost use Rattle.pi_prop_read.specs.GoalNodes.{goal_at};
 ghost use Rattle.pi_prop_read.specs.Items.{read_listed, ShowsEach};
+ghost use Rattle.pi_constraints.specs.Store.{Moment};
+ghost use Rattle.pi_prop_read.specs.TruthFrames.{ShowsMade};
 ghost use Rattle.pi_prop_read.specs.Goals.{ShowsGoal};
+ghost use Rattle.pi_prop_read.specs.Called.{goal_as, HasParts};
 
+use crate::called::PostingGoal;
 use crate::items::{collected, item_at, items_at};
 use crate::nodes::{GoalNode, goal_node_at};
 use crate::operands::OperandStop;
 use crate::relations::{Comparison, read_relation};
-use crate::truths::{post_so, read_truth};
-use pi_constraints::{Ref, StateStore};
+use crate::truths::{post_so, read_joined, read_negation, read_truth};
+use pi_constraints::{Item, Ref, StateStore};
 use pi_prop_made::{JudgedItems, Making};
 use std::alloc::Global;
 
@@ -82,12 +87,56 @@ fn post_truth<S: StateStore>(
         next (S.seen s.now).now.state ≤ m.unused → ShowsGoal (S.seen s.now).now
         (posts_truth (boolean_at (S.seen s.now).now expression)) m making.new result }
 {
-    match read_truth(alloc, s, making, expression) {
+    let truth = read_truth(alloc, s, making, expression);
+    post_known(alloc, making, truth)
+}
+
+/// A Boolean expression whose truth was read.
+fn post_known(
+    alloc: Global,
+    making: &mut Making,
+    truth: Result<Item, OperandStop>,
+) -> Result<(), OperandStop>
+    ensures { (w : Moment) (m : Made) (b : Boolean) → ShowsMade w making.old truth (read_truth b m) →
+        ShowsGoal w (posts_truth b) m making.new result }
+{
+    match truth {
         Ok(truth) => match post_so(alloc, making, truth) {
             Ok(()) => Ok(()),
             Err(_) => Err(OperandStop::Memory),
         },
         Err(stop) => Err(stop),
+    }
+}
+
+/// What a goal makes that is given by its kind and its arguments.
+pub(crate) fn read_called<S: StateStore>(
+    alloc: Global,
+    s: &S,
+    making: &mut Making,
+    goal: PostingGoal,
+) -> Result<(), OperandStop>
+    ensures { (m : Made) → IsState (S.seen s.now).now.state → HasParts (S.seen s.now).now goal → Shows making.old m →
+        next (S.seen s.now).now.state ≤ m.unused → ShowsGoal (S.seen s.now).now
+        (read_goal (goal_as (S.seen s.now).now goal)) m making.new result }
+{
+    match goal {
+        PostingGoal::Relation(comparison, left, right) => {
+            post_relation(alloc, s, making, comparison, left, right)
+        }
+        PostingGoal::Negation(part) => {
+            let truth = read_negation(alloc, s, making, part);
+            post_known(alloc, making, truth)
+        }
+        PostingGoal::Joined(connective, left, right) => {
+            let truth = read_joined(alloc, s, making, connective, left, right);
+            post_known(alloc, making, truth)
+        }
+        PostingGoal::Different(items) => post_different(alloc, s, making, items),
+        PostingGoal::Distinct(items) => post_distinct(alloc, s, making, items),
+        PostingGoal::Element(index, items, value) => {
+            post_element(alloc, s, making, index, items, value)
+        }
     }
 }
 

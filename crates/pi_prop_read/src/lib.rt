@@ -1,6 +1,7 @@
 //! What a goal of constraints posts, read from a store without recursion: its operands, relations and Boolean expressions.
 #![tactic(auto)]
 
+mod called;
 mod goals;
 mod items;
 mod nodes;
@@ -9,4 +10,7 @@ mod reading;
 mod relations;
 mod truths;
 
+pub use called::{PostingGoal, PostingStop, read_posting};
 pub use reading::{ConFault, read_constraint};
+pub use relations::Comparison;
+pub use truths::Connective;

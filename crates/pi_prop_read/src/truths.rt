@@ -7,4 +7,4 @@ mod sums;
 mod turns;
 
 pub use nodes::{Connective, TruthNode, truth_node_at};
-pub use read::{post_so, read_truth};
+pub use read::{post_so, read_joined, read_negation, read_truth};

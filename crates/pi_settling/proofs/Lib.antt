@@ -20,6 +20,7 @@ pub mod LabelCalls
 pub mod ValueLemmas
 pub mod WithinExamples
 pub mod PostedExamples
+pub mod GoalExamples
 pub mod PlaceLemmas
 pub mod RootLemmas
 pub mod SettleVariables

@@ -24,7 +24,9 @@ pub mod Values
 pub mod ValueLaws
 pub mod RightSide
 pub mod Within
+pub mod DomainValues
 pub mod Posted
+pub mod Goals
 pub mod Read
 pub mod Roots
 pub mod Stable

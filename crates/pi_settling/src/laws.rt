@@ -3,6 +3,7 @@ pub mod agents;
 pub mod calm;
 pub mod domains;
 pub mod labelling;
+pub mod names;
 pub mod runs;
 pub mod settle;
 pub mod settling;

@@ -1,0 +1,9 @@
+//! Laws of the names of goals of constraints and of functions of domains.
+ghost use Rattle.pi_settling.specs.DomainValues.{DomainFunctionsAreListed};
+ghost use Rattle.pi_settling.specs.Goals.{ConstraintGoalsAreListed};
+
+/// Just the names in the tables do something, each with its numbers of arguments, whatever the arguments and the state are.
+pub fn names_are_listed()
+    ensures goals { ConstraintGoalsAreListed }
+    ensures functions { DomainFunctionsAreListed }
+{}
