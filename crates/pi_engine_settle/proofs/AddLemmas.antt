@@ -1,11 +1,10 @@
 -- The numbers of the constraints that are due, as they are added.
-use Rattle.std.specs.Prelude.{◌≡◌, ◌⊎◌, ◌↔◌, ℕ, ◌+◌, ◌<◌, ◌≤◌, List, [], ◌∷◌, ◌++◌, length, Option, Some, None, Contains, slice_get, refl}
+use Rattle.std.specs.Prelude.{◌≡◌, ◌⊎◌, ◌↔◌, ℕ, ◌+◌, ◌<◌, ◌≤◌, List, [], ◌∷◌, ◌++◌, length, Option, Some, None, Contains}
 use Rattle.std.proofs.Common.{arith, sym, ◌∙◌, ap, subst, inl, inr}
 use Rattle.std.proofs.lemmas.Option.{slice_get_within}
 use Rattle.pi_constraints.specs.Value.{IsAcyclic}
-use Rattle.pi_constraints.specs.declared.constraint.Constraint.{Constraint}
 use Rattle.pi_constraints.specs.State.{State, bindings, next, IsState}
-use Rattle.pi_constraints.specs.Store.{StoreView, IsGood, Lists, IsPostedOn, HasChanged}
+use Rattle.pi_constraints.specs.Store.{StoreView, IsGood, Lists, HasChanged}
 use Rattle.pi_settling.specs.Calm.{IsCalm}
 use Rattle.pi_settling.proofs.SizeLemmas.{none-there}
 use Rattle.pi_settling.proofs.TwiceLemmas.{less_or_not}
@@ -39,7 +38,7 @@ changed-some v x before found ns old new lists same added (good, at, many) f is 
     record {
       many = many;
       added = added-same (IsOnSome s ns) (IsOnChanged before s) old new (λ i h. (h.0, to h.0 h.1, h.2)) (λ i h. (h.0, from h.0 h.1, h.2))
-      (added is.acyclic (λ n h. changed-made before s n f (to n h)));
+          (added is.acyclic (λ n h. changed-made before s n f (to n h)));
     }
 
 pub some-changed : {M : Type 0} (v : StoreView M) (since : Option (Since M)) (x : Since M) (before : State) (found ns old new : List ℕ) → since ≡ Some x →
@@ -70,6 +69,7 @@ from-more first end at old mid new low high so-far there put =
   where
     last : (i : ℕ) → i < at + 1 → (i < at) ⊎ (i ≡ at)
     last i l = elim (less_or_not i at) [ inl less ↦ inl less | inr more ↦ inr (omega (arith, l, more)) ]
+
     either : (i : ℕ) → IsFrom first end i → (i < at) ⊎ (i ≡ at) → IsBetween first end at i ⊎ (i ≡ at)
     either i f (inl l) = inl (f, l)
     either i f (inr e) = inr e
@@ -102,8 +102,7 @@ from-any v since before first end i is many all (inr new) = inr (let l : length 
 
 fresh-all : (K : ℕ → Type 0) (old new : List ℕ) → old ≡ [] → AreAdded K old new → Differ new × ((i : ℕ) → Contains new i ↔ K i)
 fresh-all K old new none a =
-    let is : a.fresh ≡ new = sym (a.behind ∙ ap (λ (js : List ℕ). js ++ a.fresh) none) in
-    (
+    let is : a.fresh ≡ new = sym (a.behind ∙ ap (λ (js : List ℕ). js ++ a.fresh) none) in (
       subst Differ is a.different,
       λ i. (
         λ h. ((a.has i).0 (subst (λ (js : List ℕ). Contains js i) (sym is) h)).0,

@@ -1,8 +1,8 @@
 -- The constraints that are due after a goal are those that it posted, and those of a variable that changed.
-use Rattle.std.specs.Prelude.{◌≡◌, ◌≢◌, ◌⊎◌, ◌↔◌, ℕ, zero, suc, ◌+◌, ◌<◌, ◌≤◌, nat_le, ℤ, Bool, true, false, not, ◌||◌, ◌&&◌, List, [], ◌∷◌, ◌++◌, length, Option, Some, None, slice_get, Contains, refl}
+use Rattle.std.specs.Prelude.{◌≡◌, ◌≢◌, ◌⊎◌, ◌↔◌, ℕ, zero, suc, ◌<◌, ◌≤◌, nat_le, ℤ, Bool, true, false, not, ◌&&◌, List, [], ◌∷◌, ◌++◌, length, Option, Some, None, slice_get, Contains, refl}
 use Rattle.std.specs.List.{list_any}
 use Rattle.std.specs.Ordering.{is_eq, int_cmp}
-use Rattle.std.proofs.Common.{arith, sym, ◌∙◌, ap, subst, inl, inr, length-append}
+use Rattle.std.proofs.Common.{arith, sym, ◌∙◌, ap, subst, inl, inr}
 use Rattle.std.proofs.lemmas.Bool.{cases_Bool}
 use Rattle.std.proofs.lemmas.Bool.Decides.{nat_tests}
 use Rattle.std.proofs.lemmas.List.Folds.{Any-from_list_any, list_any-from_Any}
@@ -15,13 +15,13 @@ use Rattle.pi_constraints.specs.declared.constraint.Item.{Item}
 use Rattle.pi_constraints.specs.declared.domain.Span.{Span}
 use Rattle.pi_constraints.specs.Value.{Bindings, IsAcyclic, value}
 use Rattle.pi_constraints.specs.Constraint.{SpeaksOf}
-use Rattle.pi_constraints.specs.State.{State, Variable, free, within, bound, binding, bindings, next, domain_in, domain_of, LeadsTo, is_it, through, IsState}
-use Rattle.pi_constraints.specs.Store.{IsPostedOn, HasChanged}
+use Rattle.pi_constraints.specs.State.{State, Variable, free, within, bound, binding, bindings, domain_in, domain_of, LeadsTo, is_it, through, IsState}
+use Rattle.pi_constraints.specs.Store.{HasChanged}
 use Rattle.pi_constraints.proofs.StateLemmas.{variable, held_is, domain_unbound}
 use Rattle.pi_prop_spec.specs.Places.{places_of}
 use Rattle.pi_settling.specs.Roots.{item_of, root_item, domain_or_all, given}
 use Rattle.pi_settling.specs.Load.{same_domain, is_another, has_changed, is_due, count_due}
-use Rattle.pi_settling.specs.Run.{given_at, ChangesNothing}
+use Rattle.pi_settling.specs.Run.{ChangesNothing}
 use Rattle.pi_settling.specs.Calm.{IsCalm}
 use Rattle.pi_settling.proofs.RootLemmas.{Kept, root-by_value, value_later}
 use Rattle.pi_settling.proofs.ChoiceLemmas.{allowed_is}
@@ -32,9 +32,8 @@ use Rattle.pi_settling.proofs.KeepLemmas.{MayCome}
 use Rattle.pi_settling.proofs.RunLemmas.{contained}
 use Rattle.pi_settling.proofs.WakeLemmas.{still-nothing}
 use Rattle.pi_settling.proofs.CalmLemmas.{same_map_in}
+use Rattle.pi_queue.proofs.WaitingLemmas.{Differ, none-differ}
 use Rattle.pi_settling.proofs.SizeLemmas.{none-there}
-use Rattle.pi_queue.specs.Waiting.{AreAdded}
-use Rattle.pi_queue.proofs.WaitingLemmas.{Differ}
 use Rattle.pi_queue.proofs.PlaceLemmas.{leads-root, root-leads, speaks-place, place-speaks}
 use Rattle.pi_engine_settle.specs.Due.{Follows, IsDueFor, IsOnChanged, IsFrom}
 use Rattle.pi_engine_settle.proofs.MemberLemmas.{IsDueAt, count-is}
@@ -192,11 +191,17 @@ on-variable before s i c (Item.Int j) n d f at there e has other = absurd cc
 on-variable before s i c (Item.Var k) n d f at there e has other =
     let was : variable before n ≡ within d = has-domain before n d has in
     let none : held (bindings before) n ≡ None = domain_unbound before n d has in
-    let now : Another d (variable s n) = another-tells d (variable s n) (subst (λ (v : Variable). is_another v (variable s n) ≡ true) was other) in
-    (n, ((domain_made before n d has, none), elim now [
-      | inl bound-now ↦ inl (λ gone. bound-now (sym (held_is s n) ∙ gone))
-      | inr domain-now ↦ inr (λ same. domain-now (same ∙ has))
-    ]), (c, k, at, place-speaks c k there, leads-later (bindings before) (bindings s) (var k) n f.bound (root-leads before k n none e)))
+    let now : Another d (variable s n) = another-tells d (variable s n) (subst (λ (v : Variable). is_another v (variable s n) ≡ true) was other) in (
+      n,
+      (
+        (domain_made before n d has, none),
+        elim now [
+          | inl bound-now ↦ inl (λ gone. bound-now (sym (held_is s n) ∙ gone))
+          | inr domain-now ↦ inr (λ same. domain-now (same ∙ has))
+        ],
+      ),
+      (c, k, at, place-speaks c k there, leads-later (bindings before) (bindings s) (var k) n f.bound (root-leads before k n none e)),
+    )
 
 on-place : (before s : State) (i : ℕ) (c : Constraint) (x : Item) → Follows before s → slice_get s.constraints i ≡ Some c → Contains (places_of c) x → MayCome before (root_item before x) →
     has_changed before s (root_item before x) ≡ true → IsOnChanged before s i
@@ -301,3 +306,13 @@ due-for before s due calm f is different has =
       others = λ i c at none. not-due before s i c calm f is at (λ h. none (from i h));
       count = count-is before s due different (λ i. (to i, from i));
     }
+
+-- none is due where none was posted
+pub due-none : (before s : State) → s.constraints ≡ [] → IsDueFor before s []
+unfolding count_due
+due-none before s none = record {
+  different = none-differ;
+  posted = λ i h. absurd (none-there i h);
+  others = λ i c at missing. absurd (let gone : slice_get [] i ≡ Some c = subst (λ (cs : List Constraint). slice_get cs i ≡ Some c) none at in cc);
+  count = sym (ap (count_due before s 0) none);
+}

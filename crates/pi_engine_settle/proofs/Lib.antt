@@ -3,4 +3,5 @@ pub mod DueLemmas
 pub mod EndLemmas
 pub mod FollowLemmas
 pub mod MemberLemmas
+pub mod LostLemmas
 pub mod MarkLemmas

@@ -1,16 +1,17 @@
 -- Where a goal began is remembered as long as marks are kept.
-use Rattle.std.specs.Prelude.{◌≡◌, ℕ, List, [], ◌∷◌, length, Option, Some, None, refl}
+use Rattle.std.specs.Prelude.{◌≡◌, ℕ, List, [], ◌∷◌, length, Some, None, refl}
 use Rattle.std.proofs.Common.{arith, ◌∙◌, ap}
 use Rattle.pi_constraints.specs.State.{State}
-use Rattle.pi_constraints.specs.Store.{StoreView, Moment, Keeps, Marks}
+use Rattle.pi_constraints.specs.Store.{StoreView, Moment, Marks}
 use Rattle.pi_engine_settle.specs.declared.since.Since.{Since}
 use Rattle.pi_engine_settle.specs.Due.{SinceIs}
+use Rattle.pi_engine_settle.specs.DueLaws.{SinceStays}
 
 abbrev state_of : Moment → State
 state_of m = m.state
 
 -- it stays in every call but a return
-pub since-stays : {M : Type 0} (v w : StoreView M) (before : State) (since : Option (Since M)) → Keeps v w → SinceIs v before since → SinceIs w before since
+pub since-stays : {M : Type 0} → SinceStays M
 since-stays v w before None keeps none = none
 since-stays v w before (Some x) keeps (good, at, many) = (keeps.good x.mark good, ap state_of (keeps.same x.mark good) ∙ at, many)
 

@@ -1,5 +1,5 @@
 -- What the propagation after a goal comes to. (Own.)
-use Rattle.std.specs.Prelude.{◌≡◌, ◌≢◌, ℕ, ◌+◌, ◌≤◌, List, []}
+use Rattle.std.specs.Prelude.{◌≡◌, ◌≢◌, ℕ, ◌+◌, ◌<◌, ◌≤◌, List, []}
 use Rattle.pi_core.specs.declared.log.Work.{Work}
 use Rattle.pi_constraints.specs.State.{State}
 use Rattle.pi_settling.specs.Stable.{IsStable, IsEmptied}
@@ -18,15 +18,18 @@ pub record HasLost (before s : State) (old new : Work) : Type 0 where
   pub emptied : IsEmptied s
   pub runs : new.runs ≤ old.runs + load_of_failure before s
 
--- a constraint was due, and the work has reached its limit, just so where it was within it
-pub record HasStopped (due : List ℕ) (limit : ℕ) (old new : Work) : Type 0 where
+-- A constraint was due, and the work has reached its limit, just so where it was within it. The runs are fewer than the load, with a stable state and
+-- without one.
+pub record HasStopped (before s : State) (due : List ℕ) (w : Worked) : Type 0 where
   pub some : due ≢ []
-  pub spent : limit ≤ work_of new
-  pub just : work_of old ≤ limit → work_of new ≡ limit
+  pub spent : w.limit ≤ work_of w.new
+  pub just : work_of w.old ≤ w.limit → work_of w.new ≡ w.limit
+  pub fewer : (r : State) → IsStable s r → w.new.runs < w.old.runs + load before s r
+  pub fewer_where_lost : w.new.runs < w.old.runs + load_of_failure before s
 
 -- What the propagation in a state comes to that a goal left which began in another, where these constraints are due: by the work before and after, what
 -- stands then, and how it ended.
 abbrev pub ComesTo : State → State → List ℕ → Worked → State → Settled → Type 0
 ComesTo before s due w r Settled.Left = HasSettled before s r w.old w.new
 ComesTo before s due w r Settled.Lost = HasLost before s w.old w.new
-ComesTo before s due w r Settled.Spent = HasStopped due w.limit w.old w.new
+ComesTo before s due w r Settled.Spent = HasStopped before s due w

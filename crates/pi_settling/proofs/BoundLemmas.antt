@@ -45,7 +45,7 @@ count-falls-on K s r q x is b f was =
 
 -- ---- the items that are counted
 
-roots-come : (s : State) (xs : List Item) → ((y : Item) → Contains xs y → Comes s (root_item s y)) → (x : Item) → Contains (roots_of s xs) x → Comes s x
+pub roots-come : (s : State) (xs : List Item) → ((y : Item) → Contains xs y → Comes s (root_item s y)) → (x : Item) → Contains (roots_of s xs) x → Comes s x
 unfolding roots_of
 roots-come s [] all x h = absurd (none-there x h)
 roots-come s (Item.Int i ∷ xs) all x h = roots-come s xs (λ y c. all y (behind (Item.Int i) y xs c)) x h

@@ -50,7 +50,7 @@ calm_is_stable s calm = runs_reach_stable_domains s [] 0 s (record {
 
 -- ---- a stable state is calm
 
-same_map_in : (f g : Item → List Span) (xs : List Item) → ((x : Item) → Contains xs x → f x ≡ g x) → map f xs ≡ map g xs
+pub same_map_in : (f g : Item → List Span) (xs : List Item) → ((x : Item) → Contains xs x → f x ≡ g x) → map f xs ≡ map g xs
 same_map_in f g [] same = refl
 same_map_in f g (x ∷ xs) same =
     let here : f x ≡ g x = same x (0, omega arith, refl) in

@@ -38,7 +38,7 @@ reversed-differ ns different j k l m e =
 is_allowed : (i m : ℤ) → m ≡ i → is_eq (int_cmp i m) ≡ true
 is_allowed i m e = grind (arith, ints)
 
-allowed_is : (i m : ℤ) → is_eq (int_cmp i m) ≡ true → m ≡ i
+pub allowed_is : (i m : ℤ) → is_eq (int_cmp i m) ≡ true → m ≡ i
 allowed_is i m e = grind (arith, ints)
 
 value-at : (ns : List ℤ) (k : ℕ) → k < length ns → get_or (map is_value ns) k (is_value (pos 0)) ≡ is_value (get_or ns k (pos 0))

@@ -82,7 +82,7 @@ narrowed-comes s r is n v w d (stays_bound t) there has = absurd cc
 narrowed-comes s r is n v w d (some_stay c e p q all) there has = inl (n, e, unbound-root r n (ap binding there), ap domain_in there)
 narrowed-comes s r is n v w d (one_stays c i all) there has = inr (i, integer-root r n i is.acyclic (ap binding there), stays-bounded s (Item.Var n) i ((all i).0 refl))
 
-item-comes : (s r : State) → IsState r → IsStable s r → (x : Item) → MayCome s x → MayCome r (root_item r x)
+pub item-comes : (s r : State) → IsState r → IsStable s r → (x : Item) → MayCome s x → MayCome r (root_item r x)
 item-comes s r is f x (inl (n, d, e, has)) =
     subst (λ (y : Item). MayCome r (root_item r y)) (sym e) (narrowed-comes s r is n (variable s n) (variable r n) d (f.variables n (domain_made s n d has)) refl has)
 item-comes s r is f x (inr (i, e, b)) = inr (i, ap (root_item r) e, b)

@@ -20,7 +20,7 @@ use Rattle.pi_settling.proofs.EventLemmas.{same_int, no_change_no_events}
 use Rattle.pi_settling.proofs.UniqueLemmas.{same_states}
 use Rattle.pi_settling.proofs.TwiceLemmas.{stable_stays_stable}
 
-same-itself : (d : List Span) → same_domain d d ≡ true
+pub same-itself : (d : List Span) → same_domain d d ≡ true
 unfolding same_domain
 same-itself [] = refl
 same-itself (s ∷ ss) = rw (same_int s.lo, same_int s.hi) (same-itself ss)

@@ -1,4 +1,4 @@
-use Rattle.std.proofs.Common.{rules, ◌≡◌, true, false, subst}
+use Rattle.std.proofs.Common.{subst}
 use Rattle.std.specs.Prelude.{Bool, Ok, Err}
 use Rattle.pi_settling.specs.declared.stop.PropStop.{PropStop}
 use Rattle.pi_queue.specs.Ends.{Ends, worked}
@@ -24,5 +24,5 @@ returns-in-Err-WorkSpent-clause-comes g c = λ before d is may.
     let s = (g.S.StateStore.seen c.args.store.now).now.state in
     let r = (g.S.StateStore.seen c.propagate_from.new.s).now.state in
     let w = worked c.args.limit c.args.work.now c.propagate_from.new.work in
-    has-stopped before s r c.args.due.now c.args.limit c.args.work.now c.propagate_from.new.work is may d
+    has-stopped before s r c.args.due.now w is may d
     (λ m. subst (λ (e : PropStop). Ends s c.args.due.now w r (Err e)) c.in-Err-WorkSpent.field-0-is (c.in-Err-WorkSpent.ensures.ends m))
