@@ -9,3 +9,4 @@ pub mod TraceLemmas
 pub mod CostLemmas
 pub mod KnownLemmas
 pub mod PlanExamples
+mod WorkLemmas
