@@ -10,3 +10,4 @@ pub mod CostLemmas
 pub mod KnownLemmas
 pub mod PlanExamples
 mod WorkLemmas
+mod WorkExamples

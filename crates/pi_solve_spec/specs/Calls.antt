@@ -1,8 +1,8 @@
 -- Planner calls that lead to each other, and those that a query wants. (Own.)
-use Rattle.std.specs.Prelude.{◌≡◌, ◌⊎◌, ℕ, ◌≤◌, List, [], ◌++◌, length}
+use Rattle.std.specs.Prelude.{◌≡◌, ◌≢◌, ◌⊎◌, ℕ, ◌≤◌, List, [], ◌++◌, length}
 use Rattle.pi_terms.specs.Tree.{Tree}
-use Rattle.pi_traces.specs.Trace.{Trace, Call, Done, Miss}
-use Rattle.pi_traces.specs.Depth.{cut, Ended}
+use Rattle.pi_traces.specs.Trace.{Call, Done, Miss, Deep}
+use Rattle.pi_traces.specs.Depth.{Cut, Ended}
 use Rattle.pi_core.specs.declared.log.LogEntry.{LogEntry}
 use Rattle.pi_meaning.specs.Shared.View.{body_view}
 use Rattle.pi_solve_spec.specs.Bodies.{Bodies, EndsIn, FailsIn}
@@ -32,17 +32,20 @@ pub data Reach (b : Bodies) (least : ℕ) (log : List LogEntry) (c : Call) : Cal
   itself : Reach b least log c c
   further : (d e : Call) → Reach b least log c d → Edge b least log d e → Reach b least log c e
 
--- A query: its trace under each log and at each depth, and how many Ticks it may take. Its run is this trace, cut before the Tick that is one more.
-pub record Query (A : Type 0) : Type 0 where
-  pub trace : List LogEntry → ℕ → Trace A
-  pub steps : ℕ
+-- A query, by its run under each log: what stands before its cut, and where that stops, at each depth.
+abbrev pub Query : Type 0 → Type 0
+Query A = List LogEntry → ℕ → Cut A
+
+-- the depth reaches to the cut
+abbrev pub Reaches : {A : Type 0} → Query A → List LogEntry → ℕ → Type 0
+Reaches q log depth = (q log depth).stop ≢ Ended Deep
 
 -- under a front of the log, of so many entries at least, its run ends where a call is missing
 pub record Asks {A : Type 0} (q : Query A) (known : ℕ) (log : List LogEntry) (c : Call) : Type 0 where
   pub front : List LogEntry
   pub is_front : IsFront known log front
   pub depth : ℕ
-  pub ends : (cut q.steps (q.trace front depth)).stop ≡ Ended (Miss c)
+  pub ends : (q front depth).stop ≡ Ended (Miss c)
 
 -- A query that was asked when the log had so many entries wants a call: one that it asks for, or one to which a chain under such fronts leads from one that it asks for.
 pub record IsWanted {A : Type 0} (b : Bodies) (q : Query A) (known : ℕ) (log : List LogEntry) (c : Call) : Type 0 where

@@ -1,14 +1,13 @@
 -- What a solver tells of the queries that it was asked: the planner calls that each entered, and the bounds of its work. (Own.)
 use Rattle.std.specs.Prelude.{◌≡◌, ℕ, ◌+◌, ◌*◌, ◌≤◌, Bool, List, [], ◌∷◌, take, drop, length, sum_by, All, Contains}
 use Rattle.pi_traces.specs.Trace.{Call}
-use Rattle.pi_traces.specs.Depth.{cut, CutWithoutDeep}
 use Rattle.pi_core.specs.declared.log.Entered.{Entered}
 use Rattle.pi_core.specs.declared.log.LogEntry.{LogEntry}
 use Rattle.pi_core.specs.declared.log.Work.{Work}
 use Rattle.pi_meaning.specs.Shared.View.{call_of}
 use Rattle.pi_settling.specs.Runs.{work_of}
 use Rattle.pi_solve_spec.specs.Bodies.{Bodies}
-use Rattle.pi_solve_spec.specs.Calls.{Query, IsWanted}
+use Rattle.pi_solve_spec.specs.Calls.{Query, Reaches, IsWanted}
 use Rattle.pi_solve_spec.specs.Counted.{loads_of, its_ticks, its_loads, Expansion, AtMostEach, AreExpanded, ReachesAtMost, AreDifferent, ChainsAtMost}
 
 -- the planner calls of a program: what its bodies do, and whether it is by rests
@@ -62,11 +61,11 @@ GoalsAreBounded p t expanded = (ticks : ℕ) → AtMostEach its_ticks p.bodies t
 
 -- the sum of the loads in the query's run, which each depth gives that reaches to its cut
 abbrev pub run_loads : {A : Type 0} → Query A → List LogEntry → ℕ → ℕ
-run_loads q log depth = loads_of (cut q.steps (q.trace log depth)).events
+run_loads q log depth = loads_of (q log depth).events
 
 abbrev pub RunsAreBounded : {A : Type 0} → Planning → Query A → Told → List Expansion → Type 0
 RunsAreBounded p q t expanded =
-    (depth loads : ℕ) → CutWithoutDeep q.steps (q.trace t.log depth) → AtMostEach its_loads p.bodies t.log expanded loads → t.query.work.runs ≤ run_loads q t.log depth + t.query.work.expansions * loads
+    (depth loads : ℕ) → Reaches q t.log depth → AtMostEach its_loads p.bodies t.log expanded loads → t.query.work.runs ≤ run_loads q t.log depth + t.query.work.expansions * loads
 
 -- the sum, over the entered calls, of what each reaches at most
 abbrev pub ExpansionsAreBounded : Planning → Told → Type 0
@@ -90,7 +89,7 @@ pub record Limits {A : Type 0} (p : Planning) (q : Query A) (t : Told) (expanded
   pub reached : Call → ℕ
   pub ticks_bound : AtMostEach its_ticks p.bodies t.log expanded ticks
   pub loads_bound : AtMostEach its_loads p.bodies t.log expanded loads
-  pub depth_reaches : CutWithoutDeep q.steps (q.trace t.log depth)
+  pub depth_reaches : Reaches q t.log depth
   pub reached_bound : All (λ c. ReachesAtMost p.by_rests p.bodies t.log c (reached c)) (calls_entered t)
 
 -- the sum of the bounds of goals, runs and expansions, where so many pairs are expanded at most

@@ -2,12 +2,12 @@
 use Rattle.std.specs.Prelude.{◌≡◌, ◌≢◌, ℕ, ◌+◌, ◌≤◌, ◌<◌, List, [], ◌++◌, sum_by, All}
 use Rattle.pi_terms.specs.Tree.{Tree}
 use Rattle.pi_traces.specs.Trace.{Trace, Call, Miss, Emitted, ticks}
-use Rattle.pi_traces.specs.Depth.{Below, cut, Ended, CutWithoutDeep}
+use Rattle.pi_traces.specs.Depth.{Below, Ended}
 use Rattle.pi_core.specs.declared.log.LogEntry.{LogEntry}
 use Rattle.pi_settling.specs.Runs.{work_of}
 use Rattle.pi_solve_spec.specs.Bodies.{Bodies}
 use Rattle.pi_solve_spec.specs.Steps.{CallReaches}
-use Rattle.pi_solve_spec.specs.Calls.{Query, Edge, Reach, IsWanted}
+use Rattle.pi_solve_spec.specs.Calls.{Query, Reaches, Edge, Reach, IsWanted}
 use Rattle.pi_solve_spec.specs.Counted.{loads_of, loads, its_ticks, its_loads, AtMostUnder, AtMost, AtMostEach, Expansion, AreExpanded}
 use Rattle.pi_solve_spec.specs.Known.{MoreKnown, AreBodies}
 use Rattle.pi_solve_spec.specs.WorkBounds.{Planning, Told, calls_entered, entries_added, EntersRightly, run_loads, KeepsToBounds, Limits, most_work, IsSpent}
@@ -26,7 +26,7 @@ WantedStaysWanted A = (b : Bodies) (q : Query A) (known : ℕ) (log more : List 
 
 -- a query whose run ends where a call is missing under no log wants none
 abbrev pub WantsNothing : {A : Type 0} → Query A → Type 0
-WantsNothing q = (log : List LogEntry) (depth : ℕ) (c : Call) → (cut q.steps (q.trace log depth)).stop ≢ Ended (Miss c)
+WantsNothing q = (log : List LogEntry) (depth : ℕ) (c : Call) → (q log depth).stop ≢ Ended (Miss c)
 
 abbrev pub NothingIsWanted : Type 0 → Type 0
 NothingIsWanted A = (b : Bodies) (q : Query A) (known : ℕ) (log : List LogEntry) (c : Call) → WantsNothing q → IsWanted b q known log c → ⊥
@@ -36,7 +36,7 @@ abbrev pub NothingIsEntered : Type 0 → Type 0
 NothingIsEntered A = (p : Planning) (q : Query A) (t : Told) → WantsNothing q → EntersRightly p q t → (calls_entered t ≡ []) × (entries_added t ≡ [])
 
 abbrev pub OnlyRunsAreCounted : Type 0 → Type 0
-OnlyRunsAreCounted A = (p : Planning) (q : Query A) (t : Told) (depth : ℕ) → CutWithoutDeep q.steps (q.trace t.log depth) → KeepsToBounds p q t → calls_entered t ≡ [] → work_of t.query.work ≤ run_loads q t.log depth
+OnlyRunsAreCounted A = (p : Planning) (q : Query A) (t : Told) (depth : ℕ) → Reaches q t.log depth → KeepsToBounds p q t → calls_entered t ≡ [] → work_of t.query.work ≤ run_loads q t.log depth
 
 -- ---- sums
 
