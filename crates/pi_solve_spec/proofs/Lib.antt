@@ -11,3 +11,5 @@ pub mod KnownLemmas
 pub mod PlanExamples
 mod WorkLemmas
 mod WorkExamples
+mod GroupLemmas
+mod ExpandedLemmas

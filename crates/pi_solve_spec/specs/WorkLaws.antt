@@ -1,5 +1,5 @@
 -- The laws of wanted calls and of the bounds of work.
-use Rattle.std.specs.Prelude.{◌≡◌, ◌≢◌, ℕ, ◌+◌, ◌≤◌, ◌<◌, List, [], ◌++◌, sum_by, All}
+use Rattle.std.specs.Prelude.{◌≡◌, ◌≢◌, ℕ, ◌+◌, ◌≤◌, ◌<◌, Bool, List, [], ◌++◌, length, sum_by, All}
 use Rattle.pi_terms.specs.Tree.{Tree}
 use Rattle.pi_traces.specs.Trace.{Trace, Call, Miss, Emitted, ticks}
 use Rattle.pi_traces.specs.Depth.{Below, Ended}
@@ -8,7 +8,7 @@ use Rattle.pi_settling.specs.Runs.{work_of}
 use Rattle.pi_solve_spec.specs.Bodies.{Bodies}
 use Rattle.pi_solve_spec.specs.Steps.{CallReaches}
 use Rattle.pi_solve_spec.specs.Calls.{Query, Reaches, Edge, Reach, IsWanted}
-use Rattle.pi_solve_spec.specs.Counted.{loads_of, loads, its_ticks, its_loads, AtMostUnder, AtMost, AtMostEach, Expansion, AreExpanded}
+use Rattle.pi_solve_spec.specs.Counted.{loads_of, loads, its_ticks, its_loads, AtMostUnder, AtMost, AtMostEach, Expansion, AreExpanded, ReachesAtMost, ChainsAtMost}
 use Rattle.pi_solve_spec.specs.Known.{MoreKnown, AreBodies}
 use Rattle.pi_solve_spec.specs.WorkBounds.{Planning, Told, calls_entered, entries_added, EntersRightly, run_loads, KeepsToBounds, Limits, most_work, IsSpent}
 
@@ -67,6 +67,15 @@ abbrev pub ReachedBoundsExpanded : Type 0
 ReachedBoundsExpanded = (p : Planning) (log : List LogEntry) (calls : List Call) (expanded : List Expansion) (most : ℕ) → AreExpanded p.by_rests p.bodies log calls expanded →
     (All (λ c. (s : Tree) (r : ℕ) → CallReaches p.bodies log c s r → AtMost its_ticks p.bodies log s r most) calls → AtMostEach its_ticks p.bodies log expanded most)
     × (All (λ c. (s : Tree) (r : ℕ) → CallReaches p.bodies log c s r → AtMost its_loads p.bodies log s r most) calls → AtMostEach its_loads p.bodies log expanded most)
+
+-- What calls expand is no more, together, than what they reach.
+abbrev pub ExpandedAreReached : Type 0
+ExpandedAreReached = (by_rests : Bool) (b : Bodies) (log : List LogEntry) (calls : List Call) (expanded : List Expansion) → AreExpanded by_rests b log calls expanded →
+    (reached : Call → ℕ) → All (λ c. ReachesAtMost by_rests b log c (reached c)) calls → length expanded ≤ sum_by reached calls
+
+-- A chain of different calls is no longer than the list from which they come. So no more evaluations are open at one time than one and the calls that were entered.
+abbrev pub ChainsAreShort : Type 0
+ChainsAreShort = (b : Bodies) (log : List LogEntry) (calls : List Call) → ChainsAtMost b log calls (length calls)
 
 -- The work of a query is at most the sum of its bounds.
 abbrev pub WorkIsBounded : Type 0 → Type 0

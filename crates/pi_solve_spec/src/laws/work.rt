@@ -1,5 +1,5 @@
 //! Laws of wanted calls and of counted work.
-ghost use Rattle.pi_solve_spec.specs.WorkLaws.{EdgesStay, ChainsStay, WantedStaysWanted, NothingIsWanted, NothingIsEntered, OnlyRunsAreCounted, LoadsAdd, DepthAddsCounts, KnownAddsCounts, SumsAreMonotone, WholeLogsBound, ReachedBoundsExpanded, WorkIsBounded, GreaterBudgetsLast};
+ghost use Rattle.pi_solve_spec.specs.WorkLaws.{EdgesStay, ChainsStay, WantedStaysWanted, NothingIsWanted, NothingIsEntered, OnlyRunsAreCounted, LoadsAdd, DepthAddsCounts, KnownAddsCounts, SumsAreMonotone, WholeLogsBound, ReachedBoundsExpanded, ExpandedAreReached, ChainsAreShort, WorkIsBounded, GreaterBudgetsLast};
 
 /// Edges, chains of calls and wanted calls stay under each longer log. A query whose run misses no call under any log wants
 /// none, so it enters none and adds no entry, and
@@ -26,6 +26,12 @@ pub fn counts_add<A>()
 pub fn bodies_are_bounded()
     ensures whole { WholeLogsBound }
     ensures reached { ReachedBoundsExpanded }
+{}
+
+/// What calls expand is no more, together, than what they reach, and a chain of different calls is no longer than their list.
+pub fn calls_are_bounded()
+    ensures expanded { ExpandedAreReached }
+    ensures chains { ChainsAreShort }
 {}
 
 /// Work that keeps to its bounds is at most their sum, so a budget above that is never spent.
