@@ -37,8 +37,8 @@ abbrev pub Query : Type 0 → Type 0
 Query A = List LogEntry → ℕ → Cut A
 
 -- the depth reaches to the cut
-abbrev pub Reaches : {A : Type 0} → Query A → List LogEntry → ℕ → Type 0
-Reaches q log depth = (q log depth).stop ≢ Ended Deep
+abbrev pub ReachesToCut : {A : Type 0} → Query A → List LogEntry → ℕ → Type 0
+ReachesToCut q log depth = (q log depth).stop ≢ Ended Deep
 
 -- under a front of the log, of so many entries at least, its run ends where a call is missing
 pub record Asks {A : Type 0} (q : Query A) (known : ℕ) (log : List LogEntry) (c : Call) : Type 0 where

@@ -7,7 +7,7 @@ use Rattle.pi_core.specs.declared.log.Work.{Work}
 use Rattle.pi_meaning.specs.Shared.View.{call_of}
 use Rattle.pi_settling.specs.Runs.{work_of}
 use Rattle.pi_solve_spec.specs.Bodies.{Bodies}
-use Rattle.pi_solve_spec.specs.Calls.{Query, Reaches, IsWanted}
+use Rattle.pi_solve_spec.specs.Calls.{Query, ReachesToCut, IsWanted}
 use Rattle.pi_solve_spec.specs.Counted.{loads_of, its_ticks, its_loads, Expansion, AtMostEach, AreExpanded, ReachesAtMost, AreDifferent, ChainsAtMost}
 
 -- the planner calls of a program: what its bodies do, and whether it is by rests
@@ -55,24 +55,25 @@ pub record EntersRightly {A : Type 0} (p : Planning) (q : Query A) (t : Told) : 
 
 -- ---- the bounds of work
 
--- as many Ticks as the expanded pairs have with at most so many each
+-- no more Ticks than the expanded pairs have, each with at most so many
 abbrev pub GoalsAreBounded : Planning → Told → List Expansion → Type 0
 GoalsAreBounded p t expanded = (ticks : ℕ) → AtMostEach its_ticks p.bodies t.log expanded ticks → t.query.work.goals ≤ t.query.work.expansions * ticks
 
--- the sum of the loads in the query's run, which each depth gives that reaches to its cut
+-- the sum of the loads in the query's run, at a depth; it is the same at each that reaches to the cut
 abbrev pub run_loads : {A : Type 0} → Query A → List LogEntry → ℕ → ℕ
 run_loads q log depth = loads_of (q log depth).events
 
+-- no more runs than this, and than the loads of the expanded pairs, each with at most so many
 abbrev pub RunsAreBounded : {A : Type 0} → Planning → Query A → Told → List Expansion → Type 0
 RunsAreBounded p q t expanded =
-    (depth loads : ℕ) → Reaches q t.log depth → AtMostEach its_loads p.bodies t.log expanded loads → t.query.work.runs ≤ run_loads q t.log depth + t.query.work.expansions * loads
+    (depth loads : ℕ) → ReachesToCut q t.log depth → AtMostEach its_loads p.bodies t.log expanded loads → t.query.work.runs ≤ run_loads q t.log depth + t.query.work.expansions * loads
 
--- the sum, over the entered calls, of what each reaches at most
+-- no more pairs are expanded than the entered calls reach, together: of each the different states that it reaches, by rests the different pairs
 abbrev pub ExpansionsAreBounded : Planning → Told → Type 0
 ExpansionsAreBounded p t =
     (reached : Call → ℕ) → All (λ c. ReachesAtMost p.by_rests p.bodies t.log c (reached c)) (calls_entered t) → t.query.work.expansions ≤ sum_by reached (calls_entered t)
 
--- the work of a query keeps to its bounds
+-- The work of a query keeps to its bounds: as many pairs as are counted were expanded, each by an entered call that reaches it and by none twice, and these bound what else is counted.
 pub record KeepsToBounds {A : Type 0} (p : Planning) (q : Query A) (t : Told) : Type 0 where
   pub expanded : List Expansion
   pub number : t.query.work.expansions ≡ length expanded
@@ -89,7 +90,7 @@ pub record Limits {A : Type 0} (p : Planning) (q : Query A) (t : Told) (expanded
   pub reached : Call → ℕ
   pub ticks_bound : AtMostEach its_ticks p.bodies t.log expanded ticks
   pub loads_bound : AtMostEach its_loads p.bodies t.log expanded loads
-  pub depth_reaches : Reaches q t.log depth
+  pub depth_reaches : ReachesToCut q t.log depth
   pub reached_bound : All (λ c. ReachesAtMost p.by_rests p.bodies t.log c (reached c)) (calls_entered t)
 
 -- the sum of the bounds of goals, runs and expansions, where so many pairs are expanded at most

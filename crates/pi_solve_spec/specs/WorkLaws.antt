@@ -7,7 +7,7 @@ use Rattle.pi_core.specs.declared.log.LogEntry.{LogEntry}
 use Rattle.pi_settling.specs.Runs.{work_of}
 use Rattle.pi_solve_spec.specs.Bodies.{Bodies}
 use Rattle.pi_solve_spec.specs.Steps.{CallReaches}
-use Rattle.pi_solve_spec.specs.Calls.{Query, Reaches, Edge, Reach, IsWanted}
+use Rattle.pi_solve_spec.specs.Calls.{Query, ReachesToCut, Edge, Reach, IsWanted}
 use Rattle.pi_solve_spec.specs.Counted.{loads_of, loads, its_ticks, its_loads, AtMostUnder, AtMost, AtMostEach, Expansion, AreExpanded, ReachesAtMost, ChainsAtMost}
 use Rattle.pi_solve_spec.specs.Known.{MoreKnown, AreBodies}
 use Rattle.pi_solve_spec.specs.WorkBounds.{Planning, Told, calls_entered, entries_added, EntersRightly, run_loads, KeepsToBounds, Limits, most_work, IsSpent}
@@ -36,7 +36,7 @@ abbrev pub NothingIsEntered : Type 0 → Type 0
 NothingIsEntered A = (p : Planning) (q : Query A) (t : Told) → WantsNothing q → EntersRightly p q t → (calls_entered t ≡ []) × (entries_added t ≡ [])
 
 abbrev pub OnlyRunsAreCounted : Type 0 → Type 0
-OnlyRunsAreCounted A = (p : Planning) (q : Query A) (t : Told) (depth : ℕ) → Reaches q t.log depth → KeepsToBounds p q t → calls_entered t ≡ [] → work_of t.query.work ≤ run_loads q t.log depth
+OnlyRunsAreCounted A = (p : Planning) (q : Query A) (t : Told) (depth : ℕ) → ReachesToCut q t.log depth → KeepsToBounds p q t → calls_entered t ≡ [] → work_of t.query.work ≤ run_loads q t.log depth
 
 -- ---- sums
 
