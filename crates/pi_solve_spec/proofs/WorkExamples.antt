@@ -15,10 +15,11 @@ use Rattle.pi_traces.specs.Depth.{cut, Ended}
 use Rattle.pi_solve_spec.specs.Bodies.{Bodies, Offer}
 use Rattle.pi_solve_spec.specs.Steps.{GoesOn, IsStep, Reached, at_start, by_step, CallReaches}
 use Rattle.pi_solve_spec.specs.Calls.{IsFront, Query, itself, IsWanted}
-use Rattle.pi_solve_spec.specs.Counted.{loads_of, loads, its_ticks, its_loads, AtMost, Expansion, IsAnother, AreExpanded}
+use Rattle.pi_solve_spec.specs.Counted.{loads_of, loads, its_ticks, its_loads, AtMost, Expansion, MostTicks, MostLoads, IsAnother, AreExpanded, IsChain, AreJoined, LongestChain}
 use Rattle.pi_solve_spec.specs.WorkBounds.{Planning, EntersRightly, KeepsToBounds, QueryCounts, Told, told_of_each, calls_entered, entries_added, run_loads, most_work}
+use Rattle.pi_solve_spec.proofs.ExpandedLemmas.{chains_are_short}
 
--- the loads of a trace, and its Ticks
+-- the loads of a trace
 some-loads : loads {A = ℕ} (note (Load 2) (note Tick (ans 7 (note (Load 5) (end Done))))) ≡ 7
 unfolding loads_of events_of
 some-loads = refl
@@ -91,14 +92,16 @@ told = record { log = the_entry ∷ []; entered = the_call ∷ []; query = recor
 all-is_told : (calls_entered told ≡ the_call ∷ []) × (entries_added told ≡ the_entry ∷ [])
 all-is_told = (refl, refl)
 
--- two Ticks and a load of 3 at most are in the bodies of 2, whatever its rest
-two-ticks : (r : ℕ) → AtMost its_ticks counting (the_entry ∷ []) (int (pos 2)) r 2
+-- two Ticks and a load of 3 at most are in the bodies of a number, whatever its rest
+two-ticks : (n r : ℕ) → AtMost its_ticks counting (the_entry ∷ []) (int (pos n)) r 2
 unfolding events_of count_ticks
-two-ticks r front is = record { final = λ d. omega arith; both = λ goes d. omega arith }
+two-ticks zero r front is = record { final = λ d. omega arith; both = λ goes d. omega arith }
+two-ticks (suc n) r front is = record { final = λ d. omega arith; both = λ goes d. omega arith }
 
-three-loads : (r : ℕ) → AtMost its_loads counting (the_entry ∷ []) (int (pos 2)) r 3
+three-loads : (n r : ℕ) → AtMost its_loads counting (the_entry ∷ []) (int (pos n)) r 3
 unfolding events_of loads_of
-three-loads r front is = record { final = λ d. omega arith; both = λ goes d. omega arith }
+three-loads zero r front is = record { final = λ d. omega arith; both = λ goes d. omega arith }
+three-loads (suc n) r front is = record { final = λ d. omega arith; both = λ goes d. omega arith }
 
 -- Three states with 2 Ticks and a load of 3 each, and a load of 1 in the run: 6, 10 and 3.
 the-bound : most_work (sum_by (λ (c : Call). 3) (the_call ∷ [])) 2 3 (run_loads asking_run (the_entry ∷ []) 0) ≡ 19
@@ -179,6 +182,27 @@ least-ticks n h = (h (the_entry ∷ []) whole-front).both (goes-on (the_entry �
 least-loads : (n : ℕ) → AtMost its_loads counting (the_entry ∷ []) (int (pos 2)) 5 n → 3 ≤ n
 unfolding events_of loads_of
 least-loads n h = (h (the_entry ∷ []) whole-front).both (goes-on (the_entry ∷ []) 1 5) 0
+
+-- these are the largest numbers
+most-ticks : MostTicks counting (the_entry ∷ []) the_three 2
+most-ticks = record {
+  holds = three-listed (λ e. AtMost its_ticks counting (the_entry ∷ []) e.pair.state e.pair.rest 2) (with_rest 2 5) (with_rest 1 4) (with_rest 0 3) (two-ticks 2 5) (two-ticks 1 4) (two-ticks 0 3);
+  least = λ m h. least-ticks m (h 0 (with_rest 2 5) (omega arith));
+}
+
+most-loads : MostLoads counting (the_entry ∷ []) the_three 3
+most-loads = record {
+  holds = three-listed (λ e. AtMost its_loads counting (the_entry ∷ []) e.pair.state e.pair.rest 3) (with_rest 2 5) (with_rest 1 4) (with_rest 0 3) (three-loads 2 5) (three-loads 1 4) (three-loads 0 3);
+  least = λ m h. least-loads m (h 0 (with_rest 2 5) (omega arith));
+}
+
+-- the call is a chain by itself, and no other is longer: two evaluations at one time at most
+the-chain : IsChain counting (the_entry ∷ []) (the_call ∷ []) (the_call ∷ [])
+unfolding AreJoined
+the-chain = record { among = one-listed (Contains (the_call ∷ [])) the_call (0, omega arith, refl); different = one-apart (λ c d. c ≢ d) the_call; joined = tt }
+
+longest-chain : LongestChain counting (the_entry ∷ []) (the_call ∷ []) 1
+longest-chain = record { holds = chains_are_short counting (the_entry ∷ []) (the_call ∷ []); least = λ m h. h (the_call ∷ []) the-chain }
 
 seven-runs : (depth : ℕ) → run_loads asking_run (the_entry ∷ []) depth ≡ 1
 unfolding cut loads_of
