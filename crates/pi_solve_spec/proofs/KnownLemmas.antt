@@ -8,7 +8,7 @@ use Rattle.pi_core.specs.declared.log.LogEntry.{LogEntry}
 use Rattle.pi_core.specs.declared.log.PlanResult.{PlanResult}
 use Rattle.pi_meaning.specs.Shared.View.{body_view}
 use Rattle.pi_solve_spec.specs.Bodies.{Offer, Bodies, first_fault}
-use Rattle.pi_solve_spec.specs.Steps.{IsFinal, IsStep, Valid, Reached, at_start, by_step, IsClosed, IsExhausted, number_of}
+use Rattle.pi_solve_spec.specs.Steps.{IsFinal, GoesOn, IsStep, Valid, Reached, at_start, by_step, IsClosed, IsExhausted, number_of}
 use Rattle.pi_solve_spec.specs.Entries.{HasPlan, IsRightResult, IsRightlyAdded, IsRightEntry}
 use Rattle.pi_solve_spec.specs.Known.{AreBodies}
 use Rattle.pi_solve_spec.specs.PlanLaws.{RightStaysRight, RightLogsAreRight}
@@ -38,15 +38,19 @@ valid-stays b log more (a ∷ plan) s r cost are (c, t, left, others, step, is_r
 goes_on-same : (b : Bodies) (log more : List LogEntry) (s : Tree) (r d : ℕ) → AreBodies b → end_of (b.final (body_view log [] r) s d) ≡ Done → b.final (body_view (log ++ more) [] r) s d ≡ b.final (body_view log [] r) s d
 goes_on-same b log more s r d are e = known-done (b.final (body_view log [] r) s d) (b.final (body_view (log ++ more) [] r) s d) (are.final_longer log more r s d) e
 
+pub goes_on-stays : (b : Bodies) (log more : List LogEntry) (s : Tree) (r : ℕ) → AreBodies b → GoesOn b log s r → GoesOn b (log ++ more) s r
+goes_on-stays b log more s r are h =
+    let same : b.final (body_view (log ++ more) [] r) s h.0 ≡ b.final (body_view log [] r) s h.0 = goes_on-same b log more s r h.0 are h.1 in
+    (h.0, ap end_of same ∙ h.1, ap answers same ∙ h.2)
+
 action-same : (b : Bodies) (log more : List LogEntry) (s : Tree) (r d : ℕ) → AreBodies b → end_of (b.action (body_view log [] r) s d) ≡ Done → b.action (body_view (log ++ more) [] r) s d ≡ b.action (body_view log [] r) s d
 action-same b log more s r d are e = known-done (b.action (body_view log [] r) s d) (b.action (body_view (log ++ more) [] r) s d) (are.action_longer log more r s d) e
 
 closed-stays : (b : Bodies) (log more : List LogEntry) (s : Tree) (r : ℕ) → AreBodies b → IsClosed b log s r → IsClosed b (log ++ more) s r
 closed-stays b log more s r are h =
-    let same_final : b.final (body_view (log ++ more) [] r) s h.final.0 ≡ b.final (body_view log [] r) s h.final.0 = goes_on-same b log more s r h.final.0 are h.final.1 in
     let same_action : b.action (body_view (log ++ more) [] r) s h.depth ≡ b.action (body_view log [] r) s h.depth = action-same b log more s r h.depth are h.action in
     record {
-      final = (h.final.0, ap end_of same_final ∙ h.final.1, ap answers same_final ∙ h.final.2);
+      final = goes_on-stays b log more s r are h.final;
       depth = h.depth;
       action = ap end_of same_action ∙ h.action;
       faults = ap (λ (t : Trace Offer). first_fault (answers t)) same_action ∙ h.faults;

@@ -9,3 +9,7 @@ pub mod TraceLemmas
 pub mod CostLemmas
 pub mod KnownLemmas
 pub mod PlanExamples
+mod WorkLemmas
+mod WorkExamples
+mod GroupLemmas
+mod ExpandedLemmas

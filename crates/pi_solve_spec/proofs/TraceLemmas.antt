@@ -14,7 +14,7 @@ contains-cases : {A : Type 0} {B : Type 0} (x y : A) (xs : List A) → (y ≡ x 
 contains-cases x y xs f g (zero, l, e) = f e
 contains-cases x y xs f g (suc k, l, e) = g (k, omega arith, e)
 
-none-contained : {A : Type 0} (x : A) → Contains [] x → ⊥
+pub none-contained : {A : Type 0} (x : A) → Contains [] x → ⊥
 none-contained x (k, l, e) = omega arith
 
 -- ---- a longer log

@@ -11,3 +11,6 @@ pub mod Entries
 pub mod Rests
 pub mod Known
 pub mod PlanLaws
+pub mod Counted
+pub mod WorkBounds
+pub mod WorkLaws

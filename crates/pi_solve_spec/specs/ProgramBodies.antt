@@ -1,19 +1,26 @@
 -- The bodies of a program's planner calls, by the core meaning: calls of its predicates `final` and `action` with a state, which is ground. Each begins in the empty state.
+-- And the runs of its queries, under each log.
 -- (A User's Guide to Picat, 'Planning'; where a body begins, and that it is a run by itself, is own.)
-use Rattle.std.specs.Prelude.{ℕ, List, [], ◌∷◌, None, replicate, codes}
+use Rattle.std.specs.Prelude.{ℕ, List, [], ◌∷◌, ◌++◌, None, replicate, codes}
 use Rattle.pi_terms.specs.Tree.{Tree, var}
 use Rattle.pi_constraints.specs.State.{empty_state}
 use Rattle.pi_core.specs.GoalTree.{GoalTree, call}
-use Rattle.pi_core.specs.CoreTree.{PredTree}
+use Rattle.pi_core.specs.CoreTree.{PredTree, QueryTree}
 use Rattle.pi_traces.specs.Trace.{Trace, one, then}
+use Rattle.pi_traces.specs.Depth.{cut}
 use Rattle.pi_meaning.specs.Shared.Raise.{within_limit}
 use Rattle.pi_meaning.specs.Shared.Level.{Level, Point}
+use Rattle.pi_meaning.specs.Shared.View.{query_view}
 use Rattle.pi_meaning.specs.Shared.Given.{Later}
 use Rattle.pi_meaning.specs.CoreMeaning.Builtins.{Builtins}
 use Rattle.pi_meaning.specs.CoreMeaning.Instances.{whole}
 use Rattle.pi_meaning.specs.CoreMeaning.Meaning.{slot_value, meaning, strictly}
 use Rattle.pi_meaning.specs.CoreMeaning.Rules.{level_at}
+use Rattle.pi_meaning.specs.CoreMeaning.Run.{Solution, query_trace}
 use Rattle.pi_solve_spec.specs.Bodies.{Offer, Bodies}
+use Rattle.pi_solve_spec.specs.Rests.{is_by_rests}
+use Rattle.pi_solve_spec.specs.Calls.{Query}
+use Rattle.pi_solve_spec.specs.WorkBounds.{Planning}
 
 -- final(S)
 abbrev pub final_goal : Tree → GoalTree
@@ -43,3 +50,11 @@ bodies_of later preds = record {
   final = λ v s d. then (body_trace (whole v later preds) preds (final_goal s) 0 d) (λ p. one p.state);
   action = λ v s d. then (body_trace (whole v later preds) preds (action_goal s) 3 d) offered;
 }
+
+-- a query of a program that may take so many Ticks, where no planner call is being answered
+abbrev pub query_of : Later → List PredTree → QueryTree → ℕ → Query Solution
+query_of later program q steps = λ log d. cut steps (query_trace (whole (query_view log) later (program ++ q.helpers)) program q d)
+
+-- the planner calls of a program
+abbrev pub planning_of : Later → List PredTree → Planning
+planning_of later program = record { bodies = bodies_of later program; by_rests = is_by_rests program }
