@@ -109,13 +109,15 @@ abbrev pub PointGoes : {M : Type 0} → Mode → Budget → Budget → Point →
 PointGoes mode old new p made =
     (v : View) → Fits mode v → (names : List NameSlot) (c : Config) → 0 < p.count → Stands made.before (Now.Going p) c → IsGood c → AreOfRules made.before.loaded.preds → TicksOn v names mode old new made.after made.now c
 
--- Where its step stops for want of memory, the Ticks that it counted come next in the run all the same: as if it had ended there.
+-- A step that stops for want of memory, as a change: as if the run had ended where it stood before the step.
 abbrev pub stopped : {M : Type 0} → Change M → Change M
 stopped made = change made.before made.before (Now.Ended RunEnd.Memory)
 
+-- Where the step of a goal stops so, the Ticks that it counted come next in the run all the same.
 abbrev pub GoalStops : {M : Type 0} → Mode → Budget → Budget → Point → Step → Change M → Type 0
 GoalStops mode old new p s made = GoalGoes mode old new p s (stopped made)
 
+-- the same of a run at a point that has goals, or a function's value
 abbrev pub PointStops : {M : Type 0} → Mode → Budget → Budget → Point → Change M → Type 0
 PointStops mode old new p made = PointGoes mode old new p (stopped made)
 

@@ -2,8 +2,8 @@
 ghost use Rattle.pi_engine_stands.specs.ComesBack.{EntriesKeepOneMark, ReturnsToTheMaking};
 
 /// A run has an entry for each that waits in the configuration that it stands for. Each keeps one mark, which is good and
-/// brings back the state in
-/// which the entry was made, and its place in the program; and where the newest is come back to, that state is there again.
+/// brings back the state in which the entry was made, and its place in the program; and where the newest is come back to, that
+/// state is there again.
 pub fn entries_come_back<M>()
     ensures one_mark { EntriesKeepOneMark M }
     ensures returns { ReturnsToTheMaking M }

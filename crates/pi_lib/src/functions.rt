@@ -24,8 +24,7 @@ use pi_lib_builtin::{
 use std::alloc::Global;
 
 /// What a call of a function comes to: a term, with new variables where the function makes some, or what is raised. It is said
-/// where there are as many
-/// arguments as the function takes.
+/// where there are as many arguments as the function takes.
 pub fn call_function<S: StateStore>(
     alloc: Global,
     s: &mut S,

@@ -42,8 +42,7 @@ pub enum LibValue {
 }
 
 /// What a call of the predicate of a name comes to: the call is an atom or a compound of the store. It is said where the
-/// predicate is built in and not the
-/// machine's own. A User's Guide to Picat, 'Appendix: Predicates and Functions'.
+/// predicate is built in and not the machine's own. A User's Guide to Picat, 'Appendix: Predicates and Functions'.
 pub fn run_predicate<S: StateStore>(alloc: Global, s: &mut S, call: Ref) -> LibStep
     ensures keeps { Keeps (S.seen s.old) (S.seen s.new) }
     ensures shows { (t : Tree) (e : Effect) → IsState (S.seen s.old).now.state → IsTerm (S.seen s.old) call t →
@@ -67,8 +66,7 @@ pub fn run_predicate<S: StateStore>(alloc: Global, s: &mut S, call: Ref) -> LibS
 }
 
 /// What a call of the function of a name comes to. It is said where the function is built in and not the machine's own. A
-/// User's Guide to Picat, 'Appendix:
-/// Predicates and Functions'.
+/// User's Guide to Picat, 'Appendix: Predicates and Functions'.
 pub fn run_function<S: StateStore>(alloc: Global, s: &mut S, name: &str, args: &[Ref]) -> LibValue
     ensures keeps { Keeps (S.seen s.old) (S.seen s.new) }
     ensures shows { (ts : Trees) (e : FunctionEffect) → HoldsNoCycle (S.seen s.old) →

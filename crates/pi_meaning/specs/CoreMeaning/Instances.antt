@@ -1,5 +1,5 @@
 -- The two kinds of built-ins that the core meaning is taken with: all names of the language, for a program, which is what a machine runs; and the tables' alone, of which the law
--- on the states of runs speaks. (A User's Guide to Picat, 'Appendix: Predicates and Functions'; which names are there is own.)
+-- on the states of runs speaks, and the law that programs which call no other built-ins mean the same with both. (A User's Guide to Picat, 'Appendix: Predicates and Functions'; which names are there is own.)
 use Rattle.std.specs.Prelude.{ℕ, Bool, false, not, cond, List, Option, Some, None}
 use Rattle.pi_terms.specs.Tree.{Trees, tree_count}
 use Rattle.pi_constraints.specs.State.{State}

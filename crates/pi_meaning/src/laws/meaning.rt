@@ -13,8 +13,7 @@ pub fn names_are_given()
 {}
 
 /// A query that calls nothing but built-ins of the tables and what its program defines, by names that the language doesn't
-/// give, has the same trace
-/// with these built-ins alone as with all names of the language.
+/// give, has the same trace with these built-ins alone as with all names of the language.
 pub fn tabled_is_whole()
     ensures { TabledIsWhole }
 {}
@@ -40,8 +39,7 @@ pub fn runs_are_one()
 {}
 
 /// Where no later stage is there, and Ticks stand between the calls of quiet predicates, there is a depth that reaches to each
-/// Tick of a query's trace,
-/// and so each query has its run.
+/// Tick of a query's trace, and so each query has its run.
 pub fn queries_run()
     ensures reaches { DepthReachesTicks }
     ensures runs { EachQueryRuns }

@@ -15,8 +15,7 @@ pub fn the_rest_is_a_number()
 {}
 
 /// A valid plan keeps its limit. Where the rest counts for nothing, a plan of `best_plan` costs what no valid plan costs less
-/// than, and that is one
-/// number. Where it finds none there is none.
+/// than, and that is one number. Where it finds none there is none.
 pub fn best_plans_are_cheapest()
     ensures limit { PlansKeepTheLimit }
     ensures cost { PlansGoByCost }

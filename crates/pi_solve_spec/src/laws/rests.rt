@@ -3,8 +3,7 @@ ghost use Rattle.pi_solve_spec.specs.NameRestLaws.{NamesIgnoreRests};
 ghost use Rattle.pi_solve_spec.specs.RestLaws.{GoalsIgnoreRests, LevelsIgnoreRests, QueriesIgnoreRests, BodiesIgnoreRests, BestPlansOfPrograms, PlannerCallsIgnoreRests};
 
 /// A goal in which `current_resource` isn't called does the same under views of a planner's bodies that differ in the number of
-/// the rest alone, and in a program that isn't by
-/// rests so do calls at each depth, and each goal that is asked.
+/// the rest alone, and in a program that isn't by rests so do calls at each depth, and each goal that is asked.
 pub fn goals_ignore_rests()
     ensures goals { GoalsIgnoreRests }
     ensures levels { LevelsIgnoreRests }
@@ -12,8 +11,7 @@ pub fn goals_ignore_rests()
 {}
 
 /// The bodies of its planner calls are the same with each rest, so that a right answer of `best_plan` costs what no valid plan
-/// costs less than. What a planner call comes to
-/// doesn't go by the rest.
+/// costs less than. What a planner call comes to doesn't go by the rest.
 pub fn bodies_ignore_rests()
     ensures bodies { BodiesIgnoreRests }
     ensures cheapest { BestPlansOfPrograms }
