@@ -1,3 +1,4 @@
+pub mod EndLemmas
 pub mod ExpressionLemmas
 pub mod OneReadingLemmas
 pub mod PartLemmas

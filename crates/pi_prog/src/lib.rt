@@ -15,6 +15,7 @@ pub use prelude::read_prelude;
 pub use prelude_laws::prelude_is_its_text;
 pub use program::read_program;
 pub use reading::read_parts;
+pub use reading::stretch::is_end;
 
 /// The most different names that the variables of a part may have; all `_` count as one.
 pub const MAX_NAMES: usize = 4096;

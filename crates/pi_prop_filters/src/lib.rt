@@ -9,6 +9,7 @@ mod distinct;
 mod element;
 mod ends;
 mod full;
+mod item_places;
 mod items;
 mod joins;
 mod kinds;
@@ -21,6 +22,7 @@ mod products;
 mod reified;
 mod variables;
 
+pub use item_places::places;
 pub use kinds::filter_places;
 pub use limits::{is_within_limits, place_count};
 pub use lists::{filter, filter_distinct, filter_reified};

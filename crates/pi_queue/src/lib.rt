@@ -9,7 +9,6 @@ mod filtering;
 mod held;
 mod held_places;
 mod leaving;
-mod places;
 mod propagation;
 mod reading;
 mod stand;

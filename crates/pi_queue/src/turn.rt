@@ -8,11 +8,10 @@ ghost use Rattle.pi_queue.specs.Turn.{MayTurn, Turns};
 use crate::due::Due;
 use crate::filtering::filtered;
 use crate::leaving::leave_all;
-use crate::places::places;
 use crate::reading::roots;
 use crate::waking::wake;
 use pi_constraints::{Constraint, StoredDomains};
-use pi_prop_filters::is_within_limits;
+use pi_prop_filters::{is_within_limits, places};
 use std::alloc::{AllocError, Global};
 
 /// Runs the constraint with a number, and puts those that it wakes behind the others. False where the run fails.

@@ -6,7 +6,6 @@ mod checking;
 mod cuts;
 mod entries;
 mod hints;
-mod items;
 mod lemmas;
 mod lookup;
 mod refuting;

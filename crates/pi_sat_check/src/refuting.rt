@@ -9,10 +9,9 @@ ghost use Rattle.pi_sat_check.specs.Places.{HaveNone};
 ghost use Rattle.pi_constraints.specs.Constraint.{IsItem, AreItems};
 
 use crate::cuts::{has_empty, is_empty};
-use crate::items::places;
 use crate::lookup::place_of;
 use pi_constraints::{Constraint, Domain, Domains, Item, Span, VarDomain};
-use pi_prop_filters::filter;
+use pi_prop_filters::{filter, places};
 use std::alloc::{AllocError, Global};
 
 /// Whether a domain is empty, or the constraint's filter empties one at its places.

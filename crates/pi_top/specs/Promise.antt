@@ -15,7 +15,7 @@ use Rattle.pi_top.specs.SessionEnds.{SessionEnds}
 use Rattle.pi_top.specs.declared.outcome.Outcome.{Outcome}
 use Rattle.pi_top.specs.Told.{files_read, input_read, lists, sink_written}
 
--- so many bytes of a session's input are read at most
+-- Of a session's input so many bytes are taken at most; one that has more is too long.
 pub record Promise {F I O : Type 0} (most : ℕ) (words : List (List ℕ)) (files : FilesOver F) (input : InputOver I) (out : SinkOver O)
     (outcome : Outcome) : Type 0 where
   -- There is no other status than 0 to 9.

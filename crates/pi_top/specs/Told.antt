@@ -17,7 +17,7 @@ pub record FilesRead : Type 0 where
 abbrev pub files_read : Option Holding → FaultCount → List FileRead → FilesRead
 files_read held count reads = record { held = held; count = count; reads = reads }
 
--- how many bytes of an input are read at most, its count of faults, and its reads
+-- how many bytes of an input are taken at most, where it has more too, its count of faults, and its reads
 pub record InputRead : Type 0 where
   pub most : ℕ
   pub count : FaultCount

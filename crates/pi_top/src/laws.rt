@@ -34,8 +34,7 @@ pub fn judgements_are_one()
 /// A program's text is ready for the goals of a session, or a line says why none is asked, and never both, each in one way; so it is with a
 /// goal's text that is asked of a program then. The lines that a session served are those that were found in its input. And where no
 /// read of the input fails, no write, and no memory is wanted, program, manner, log and input decide its status, the goals that
-/// were run with their
-/// Ticks, and the bytes that are written.
+/// were run with their Ticks, and the bytes that are written.
 pub fn sessions_are_one()
     ensures program { (text : List ℕ) (program other : ProgramTree) → IsReady text program → IsReady text other → program ≡ other }
     ensures program_line { (text line other : List ℕ) → IsUnready text line → IsUnready text other → line ≡ other }

@@ -4,6 +4,7 @@ use Rattle.std.proofs.lemmas.List.{length-append, length-map, length-take-le, le
 use Rattle.pi_syntax.specs.Tokens.{Token, Var, Atom, Word, Int, Str, Sign, End, Located, Fault, Lexes}
 use Rattle.pi_lex.specs.Kinds.{kinds, lines}
 use Rattle.pi_prog_clauses.specs.Stretch.{stretches, stretches_behind}
+use Rattle.pi_prog.proofs.EndLemmas.{length-kinds}
 use Rattle.pi_where.specs.Places.{BeginsAt, EndsAt}
 use Rattle.pi_where.specs.Where.{with_end, all_tokens, IsPart, HasLines, LacksPart, TextHasLines, TextLacksPart, HasNoTokens}
 use Rattle.pi_where.specs.declared.part_lines.PartLines.{PartLines}
@@ -54,9 +55,6 @@ split_one (a ∷ xs) (b ∷ ys) x y rest others count h =
     let (first, others_too) = cons_one a b (xs ++ x ∷ rest) (ys ++ y ∷ others) h in
     let (same, item) = split_one xs ys x y rest others (omega (arith, count)) others_too in
     (cc, item)
-
-pub length-kinds : (tokens : List Located) → length (kinds tokens) ≡ length tokens
-length-kinds tokens = length-map tokens (λ (located : Located). located.0)
 
 same_length : (xs ys : List Located) → kinds xs ≡ kinds ys → length xs ≡ length ys
 same_length xs ys h = sym (length-kinds xs) ∙ ap length h ∙ length-kinds ys

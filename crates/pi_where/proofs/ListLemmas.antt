@@ -1,8 +1,9 @@
 -- Items of a list from one place up to another.
-use Rattle.std.proofs.Common.{◌≡◌, ℕ, ◌+◌, ◌-◌, ◌<◌, ◌≤◌, zero, suc, List, [], ◌∷◌, ◌++◌, map, take, drop, length, slice_get, Some, refl, ap, sym, ◌∙◌, arith, drop-cons, append_assoc}
+use Rattle.std.proofs.Common.{◌≡◌, ℕ, ◌+◌, ◌-◌, ◌<◌, ◌≤◌, zero, suc, List, [], ◌∷◌, ◌++◌, map, take, drop, length, slice_get, Some, refl, ap, sym, ◌∙◌, arith, append_assoc}
 use Rattle.std.proofs.Math.Seq.{take-add, take-append_seam, drop-append_seam}
 use Rattle.std.proofs.lemmas.List.{drop-drop, drop-map, take-append-drop, take-map}
-use Rattle.std.proofs.lemmas.Option.{slice_get_within, slice_get_past, get_or_from_slice_get}
+use Rattle.std.proofs.lemmas.Option.{slice_get_past}
+use Rattle.pi_prog.proofs.EndLemmas.{drop_at}
 
 -- from one place up to another
 abbrev pub between : {X : Type 0} → List X → ℕ → ℕ → List X
@@ -12,13 +13,6 @@ drop_on : {X : Type 0} (xs : List X) (from at : ℕ) → from ≤ at → drop (a
 drop_on xs from at h =
     let place : from + (at - from) ≡ at = omega (arith, h) in
     drop-drop (at - from) from xs ∙ ap (λ k. drop k xs) place
-
--- the item at a place stands before the items after that place
-pub drop_at : {X : Type 0} (xs : List X) (at next : ℕ) (x : X) → next ≡ at + 1 → slice_get xs at ≡ Some x → drop at xs ≡ x ∷ drop next xs
-drop_at xs at next x n is =
-    let within = slice_get_within xs at x is in
-    let same : suc at ≡ next = omega (arith, n) in
-    drop-cons xs at x within ∙ ap (λ y. y ∷ drop (suc at) xs) (get_or_from_slice_get xs at x x is) ∙ ap (λ k. x ∷ drop k xs) same
 
 -- one item more
 pub between_more : {X : Type 0} (xs : List X) (from at next : ℕ) (x : X) → next ≡ at + 1 → from ≤ at → slice_get xs at ≡ Some x

@@ -1,51 +1,13 @@
 -- Parts one after the other, by the places between them.
 use Rattle.std.proofs.Common.{◌≡◌, ℕ, ◌+◌, ◌-◌, ◌<◌, ◌≤◌, true, false, List, [], ◌∷◌, ◌++◌, take, drop, length, slice_get, Some, refl, ap, sym, ◌∙◌, arith, append_assoc, append-nil}
 use Rattle.std.proofs.lemmas.List.{drop_all, length-append, length-take-le, length-drop}
-use Rattle.pi_syntax.specs.Tokens.{Token, Var, Atom, Word, Int, Str, Sign, End}
+use Rattle.pi_syntax.specs.Tokens.{Token}
 use Rattle.pi_prog_clauses.specs.Stretch.{Stretch, stretch, stretches, stretches_behind}
-use Rattle.pi_where.specs.Places.{is_end, BeginsAt, EndsAt}
+use Rattle.pi_prog.specs.Pieces.{is_end}
+use Rattle.pi_prog.proofs.EndLemmas.{end_step, other_step, last_step, no_step, is_the_end, drop_at}
+use Rattle.pi_where.specs.Places.{BeginsAt, EndsAt}
 use Rattle.pi_where.specs.Where.{with_end, all_tokens}
-use Rattle.pi_where.proofs.ListLemmas.{between, drop_at, between_more, take_on}
-
-end_step : (before ts : List Token) → stretches_behind before (End ∷ ts) ≡ stretch before true ∷ stretches_behind [] ts
-unfolding stretches_behind
-end_step [] ts = refl
-end_step (b ∷ bs) ts = refl
-
-other_step : (before : List Token) (t : Token) (ts : List Token) → is_end t ≡ false → stretches_behind before (t ∷ ts) ≡ stretches_behind (before ++ t ∷ []) ts
-unfolding stretches_behind
-other_step [] (Var n) ts h = refl
-other_step [] (Atom n) ts h = refl
-other_step [] (Word n) ts h = refl
-other_step [] (Int n) ts h = refl
-other_step [] (Str n) ts h = refl
-other_step [] (Sign n) ts h = refl
-other_step [] End ts h = absurd (cc)
-other_step (b ∷ bs) (Var n) ts h = refl
-other_step (b ∷ bs) (Atom n) ts h = refl
-other_step (b ∷ bs) (Word n) ts h = refl
-other_step (b ∷ bs) (Int n) ts h = refl
-other_step (b ∷ bs) (Str n) ts h = refl
-other_step (b ∷ bs) (Sign n) ts h = refl
-other_step (b ∷ bs) End ts h = absurd (cc)
-
-last_step : (before : List Token) → 0 < length before → stretches_behind before [] ≡ stretch before false ∷ []
-unfolding stretches_behind
-last_step [] h = absurd (omega arith)
-last_step (b ∷ bs) h = refl
-
-pub no_parts : stretches [] ≡ []
-unfolding stretches_behind
-no_parts = refl
-
-is_the_end : (t : Token) → is_end t ≡ true → t ≡ End
-is_the_end End h = refl
-is_the_end (Var n) h = absurd (cc)
-is_the_end (Atom n) h = absurd (cc)
-is_the_end (Word n) h = absurd (cc)
-is_the_end (Int n) h = absurd (cc)
-is_the_end (Str n) h = absurd (cc)
-is_the_end (Sign n) h = absurd (cc)
+use Rattle.pi_where.proofs.ListLemmas.{between, between_more, take_on}
 
 -- no token from one place up to another is an end point
 abbrev pub IsOpenTo : List Token → ℕ → ℕ → Type 0
@@ -85,7 +47,7 @@ ends_at_last ts from end all some far =
       part = far
           ∙ ap (stretches_behind (between ts from end)) none
           ∙ last_step (between ts from end) (omega (arith, count, some))
-          ∙ ap (λ ss. stretch (between ts from end) false ∷ ss) (sym (ap (λ ds. stretches ds) none ∙ no_parts));
+          ∙ ap (λ ss. stretch (between ts from end) false ∷ ss) (sym (ap (λ ds. stretches ds) none ∙ no_step));
       its_own = refl;
       some = some;
       within = omega (arith, all);
@@ -114,6 +76,6 @@ begins_next ts number next from to n begins ends = record {
 -- where no token is left, so many parts aren't there
 pub lacks_from : (ts : List Token) (number at : ℕ) → length ts ≤ at → BeginsAt ts number at → length (stretches ts) < number
 lacks_from ts number at all begins =
-    let none : stretches (drop at ts) ≡ [] = ap (λ ds. stretches ds) (drop_all at ts all) ∙ no_parts in
+    let none : stretches (drop at ts) ≡ [] = ap (λ ds. stretches ds) (drop_all at ts all) ∙ no_step in
     let whole : stretches ts ≡ begins.before = begins.parts ∙ ap (λ ss. begins.before ++ ss) none ∙ append-nil begins.before in
     omega (arith, begins.counted, ap length whole)

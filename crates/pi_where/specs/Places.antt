@@ -1,13 +1,8 @@
 -- Places between the parts of tokens.
-use Rattle.std.specs.Prelude.{◌≡◌, ◌<◌, ◌≤◌, ◌+◌, ◌-◌, ℕ, Bool, true, false, List, ◌∷◌, ◌++◌, length, take, drop}
-use Rattle.pi_syntax.specs.Tokens.{Token, End}
+use Rattle.std.specs.Prelude.{◌≡◌, ◌<◌, ◌≤◌, ◌+◌, ◌-◌, ℕ, List, ◌∷◌, ◌++◌, length, take, drop}
+use Rattle.pi_syntax.specs.Tokens.{Token}
 use Rattle.pi_prog_clauses.specs.Stretch.{Stretch, stretches}
 use Rattle.pi_where.specs.Where.{with_end, all_tokens}
-
--- whether a token is the end point
-abbrev pub is_end : Token → Bool
-is_end End = true
-is_end t = false
 
 -- the part of this number would begin at this place: the parts before it end there
 pub record BeginsAt (ts : List Token) (number at : ℕ) : Type 0 where

@@ -1,7 +1,6 @@
 //! Where a part of a program's text stands: its first and its last line.
 #![tactic(auto)]
 
-mod ends;
 pub mod laws;
 mod part_lines;
 mod places;

@@ -4,8 +4,8 @@ ghost use Rattle.pi_lex.specs.Kinds.{kinds};
 ghost use Rattle.pi_where.specs.Places.{BeginsAt, EndsAt};
 ghost use Rattle.pi_where.specs.Where.{LacksPart};
 
-use crate::ends::is_end;
 use pi_lex::Tokens;
+use pi_prog::is_end;
 
 /// Where the part of a number begins, counted from 1.
 pub(crate) fn part_begin(tokens: &Tokens, number: u64) -> Option<usize>

@@ -5,8 +5,8 @@ use std::alloc::Global;
 use std::cell::Cell;
 
 /// A case that is answered. Its first fault stays; what is taken behind it is 0 or nothing, and counts for nothing. What
-/// changes of it stands in
-/// cells, so that it is lent to whatever takes of it and tells. Its words are its own, so it has no lifetime that each call would carry.
+/// changes of it stands in cells, so that it is lent to whatever takes of it and tells. Its words are its own, so it has no
+/// lifetime that each call would carry.
 pub struct Case {
     pub alloc: Global,
     pub(crate) words: Vec<String>,

@@ -1,7 +1,6 @@
 //! Constraints in words: `absolute Z X`, `product Z X Y`, `different ITEM ..`, `distinct ITEM ..`, `element INDEX VALUE ITEM ..`,
 //! `sum = CONSTANT COEFFICIENT VARIABLE ..` with `=`, `#` or `<`, and `truth ITEM = ..` as a sum. An item is an integer or
-//! `_7`. Cases of filters write
-//! `linear` for `sum`, `reified` for `truth`, `!=` for `#` and `=<` for `<`.
+//! `_7`. Cases of filters write `linear` for `sum`, `reified` for `truth`, `!=` for `#` and `=<` for `<`.
 
 use crate::case::Case;
 use crate::nodes::{Node, node_of};

@@ -5,6 +5,7 @@
 mod case;
 mod constraints;
 mod domains;
+mod events;
 mod fault;
 mod files;
 mod given;
@@ -20,6 +21,7 @@ mod written;
 pub use case::Case;
 pub use constraints::take_constraint;
 pub use domains::{spans_of, tell_domain, tell_domains, tell_span};
+pub use events::{EventKind, take_event_kind};
 pub use fault::Problem;
 pub use files::{Subjects, run};
 pub use given::{Given, take_given};

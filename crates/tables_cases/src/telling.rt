@@ -72,8 +72,7 @@ impl Case {
     }
 
     /// Writes what this case tells over the raw store, where that is something else, and notes its fault. That they differ
-    /// stands at the end too, which is
-    /// told of a long answer.
+    /// stands at the end too, which is told of a long answer.
     pub fn tell_raw(&self, raw: &Case) {
         self.fail_as(raw);
         let answer = raw.take_answer();

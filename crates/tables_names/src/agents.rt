@@ -1,39 +1,14 @@
 //! Agents. `events_of N bound; OLD; NEW` tells the events of variable N, which is bound now, or `unbound`, and which had the domain OLD
 //! and has NEW, or none where `free` stands there. `activations N; agent KIND M ..; event KIND M ..` tells whom events wake, in
-//! a store of N
-//! variables and of the agents before them, each with its events, and a variable behind each of these.
+//! a store of N variables and of the agents before them, each with its events, and a variable behind each of these.
 
 use pi_agent::{activations, events_of};
 use pi_dom::Domain;
 use pi_types::{Activation, Event, Events, Ref, StateStore, TreeStore, Watch, Watches};
-use tables_cases::{Case, named, spans_of};
+use tables_cases::{Case, EventKind, spans_of, take_event_kind};
 
 /// The slot that each event's term takes. It isn't told.
 const SLOT: u32 = 0;
-
-/// A kind of event.
-#[derive(Clone, Copy)]
-enum Kind {
-    Ins,
-    Bound,
-    Dom,
-    DomAny,
-    Posted,
-}
-
-/// Each kind with its word.
-const KINDS: [(&str, Kind); 5] = [
-    ("ins", Kind::Ins),
-    ("bound", Kind::Bound),
-    ("dom", Kind::Dom),
-    ("dom_any", Kind::DomAny),
-    ("posted", Kind::Posted),
-];
-
-/// The kind with a word.
-fn kind_of(word: &str) -> Option<Kind> {
-    named(&KINDS, word)
-}
 
 /// Tells the events of a variable.
 pub(crate) fn answer_events(case: &Case) {
@@ -152,17 +127,14 @@ fn add_agent<S: StateStore>(case: &Case, store: &mut S) {
 
 /// Takes an event that is waited for.
 fn take_watch<S: StateStore>(case: &Case, store: &S) -> Option<Watch> {
-    let kind = kind_of(case.take_word());
-    if kind.is_none() {
-        case.lacks("a kind of event");
-    }
+    let kind = take_event_kind(case);
     let r = take_variable(case, store)?;
     Some(match kind? {
-        Kind::Ins => Watch::Ins(r),
-        Kind::Bound => Watch::Bound(r),
-        Kind::Dom => Watch::Dom(r, SLOT),
-        Kind::DomAny => Watch::DomAny(r, SLOT),
-        Kind::Posted => Watch::Posted(r, SLOT),
+        EventKind::Ins => Watch::Ins(r),
+        EventKind::Bound => Watch::Bound(r),
+        EventKind::Dom => Watch::Dom(r, SLOT),
+        EventKind::DomAny => Watch::DomAny(r, SLOT),
+        EventKind::Posted => Watch::Posted(r, SLOT),
     })
 }
 
@@ -178,17 +150,14 @@ fn take_variable<S: StateStore>(case: &Case, store: &S) -> Option<Ref> {
 
 /// Takes an event. A lost value counts as one that lay between the ends where the kind is `dom`.
 fn take_event(case: &Case) -> Option<Event> {
-    let kind = kind_of(case.take_word());
-    if kind.is_none() {
-        case.lacks("a kind of event");
-    }
+    let kind = take_event_kind(case);
     let n = case.take_number();
     Some(match kind? {
-        Kind::Ins => Event::Ins(n),
-        Kind::Bound => Event::Bound(n),
-        Kind::Dom => Event::Excluded(n, take_value(case), true),
-        Kind::DomAny => Event::Excluded(n, take_value(case), false),
-        Kind::Posted => Event::Posted(n, case.take_term()?),
+        EventKind::Ins => Event::Ins(n),
+        EventKind::Bound => Event::Bound(n),
+        EventKind::Dom => Event::Excluded(n, take_value(case), true),
+        EventKind::DomAny => Event::Excluded(n, take_value(case), false),
+        EventKind::Posted => Event::Posted(n, case.take_term()?),
     })
 }
 

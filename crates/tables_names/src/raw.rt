@@ -1,6 +1,5 @@
 //! The raw store's own calls. `raw_store N` marks a store, makes N variables, comes back to the mark, and gives the region
-//! back: told is whether
-//! the region has grown, whether it is as long as before, and how many words it has when it is given back.
+//! back: told is whether the region has grown, whether it is as long as before, and how many words it has when it is given back.
 
 use pi_region::Words;
 use pi_store::RawStore;

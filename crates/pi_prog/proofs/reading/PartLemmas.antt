@@ -1,9 +1,7 @@
 -- Parts one after the other.
-use Rattle.std.proofs.Common.{◌≡◌, ℕ, ◌+◌, ◌<◌, ◌≤◌, suc, true, false, List, [], ◌∷◌, ◌++◌, drop, length, slice_get, Some, refl, ap, sym, subst, ◌∙◌, arith, drop-cons, append_assoc, append-nil}
-use Rattle.std.proofs.lemmas.List.{drop_all, length-map}
-use Rattle.pi_lex.specs.Kinds.{kinds}
-use Rattle.std.proofs.lemmas.Option.{slice_get_within, get_or_from_slice_get}
-use Rattle.pi_syntax.specs.Tokens.{Located, Token, Var, Atom, Word, Int, Str, Sign, End}
+use Rattle.std.proofs.Common.{◌≡◌, ℕ, ◌+◌, ◌<◌, ◌≤◌, true, false, List, [], ◌∷◌, ◌++◌, drop, length, slice_get, Some, refl, ap, sym, subst, ◌∙◌, arith, append_assoc, append-nil}
+use Rattle.std.proofs.lemmas.List.{drop_all}
+use Rattle.pi_syntax.specs.Tokens.{Token}
 use Rattle.pi_expr.specs.Faults as faults
 use Rattle.pi_expr.proofs.CrowdLemmas.{stretch_none}
 use Rattle.pi_prog.specs.Parts.{Parts, none, next, SoFar}
@@ -14,6 +12,7 @@ use Rattle.pi_prog_clauses.specs.Shown as shown
 use Rattle.pi_prog_clauses.specs.Shown.{AreShown}
 use Rattle.pi_prog_clauses.specs.Stretch.{Stretch, stretch, stretches, stretches_behind}
 use Rattle.pi_prog_clauses.specs.declared.parts.PartReading.{PartReading}
+use Rattle.pi_prog.proofs.EndLemmas.{end_step, other_step, last_step, no_step, is_the_end, drop_at}
 use Rattle.pi_prog.proofs.reading.PlaceLemmas.{stretch_more, length-stretch}
 
 parts_more : {ss : List Stretch} {ps : List PartReading} (s : Stretch) (p : PartReading) → Parts ss ps → ShowsPart s p → Parts (ss ++ s ∷ []) (ps ++ p ∷ [])
@@ -26,54 +25,6 @@ AreRead ss ps = (rs : List Reading) × ReadAll ss rs × AreShown ps rs
 parts_read : {ss : List Stretch} {ps : List PartReading} → Parts ss ps → AreRead ss ps
 parts_read none = ([], reading.none, shown.none)
 parts_read (next (r, reads, shows) parts) = let (rs, all, are) = parts_read parts in (r ∷ rs, reading.next reads all, shown.next shows are)
-
--- one token more
-
-end_step : (before ts : List Token) → stretches_behind before (End ∷ ts) ≡ stretch before true ∷ stretches_behind [] ts
-unfolding stretches_behind
-end_step [] ts = refl
-end_step (b ∷ bs) ts = refl
-
-other_step : (before : List Token) (t : Token) (ts : List Token) → is_end t ≡ false → stretches_behind before (t ∷ ts) ≡ stretches_behind (before ++ t ∷ []) ts
-unfolding stretches_behind
-other_step [] (Var n) ts h = refl
-other_step [] (Atom n) ts h = refl
-other_step [] (Word n) ts h = refl
-other_step [] (Int n) ts h = refl
-other_step [] (Str n) ts h = refl
-other_step [] (Sign n) ts h = refl
-other_step [] End ts h = absurd (cc)
-other_step (b ∷ bs) (Var n) ts h = refl
-other_step (b ∷ bs) (Atom n) ts h = refl
-other_step (b ∷ bs) (Word n) ts h = refl
-other_step (b ∷ bs) (Int n) ts h = refl
-other_step (b ∷ bs) (Str n) ts h = refl
-other_step (b ∷ bs) (Sign n) ts h = refl
-other_step (b ∷ bs) End ts h = absurd (cc)
-
-last_step : (before : List Token) → 0 < length before → stretches_behind before [] ≡ stretch before false ∷ []
-unfolding stretches_behind
-last_step [] h = absurd (omega arith)
-last_step (b ∷ bs) h = refl
-
-no_step : stretches_behind [] [] ≡ []
-unfolding stretches_behind
-no_step = refl
-
-is_the_end : (t : Token) → is_end t ≡ true → t ≡ End
-is_the_end End h = refl
-is_the_end (Var n) h = absurd (cc)
-is_the_end (Atom n) h = absurd (cc)
-is_the_end (Word n) h = absurd (cc)
-is_the_end (Int n) h = absurd (cc)
-is_the_end (Str n) h = absurd (cc)
-is_the_end (Sign n) h = absurd (cc)
-
-pub drop_at : (ts : List Token) (at after : ℕ) (t : Token) → after ≡ at + 1 → slice_get ts at ≡ Some t → drop at ts ≡ t ∷ drop after ts
-drop_at ts at after t n is =
-    let within = slice_get_within ts at t is in
-    let same : suc at ≡ after = omega (arith, n) in
-    drop-cons ts at t within ∙ ap (λ x. x ∷ drop (suc at) ts) (get_or_from_slice_get ts at t t is) ∙ ap (λ k. t ∷ drop k ts) same
 
 drop_none : (ts : List Token) (n : ℕ) → length ts ≤ n → drop n ts ≡ []
 drop_none ts n h = drop_all n ts h
@@ -113,9 +64,6 @@ so_far_end ts ps from at after t p n is ends shows far =
 pub so_far_push : (ts : List Token) (ps all : List PartReading) (from at after : ℕ) (t : Token) (p : PartReading) → after ≡ at + 1 → slice_get ts at ≡ Some t → is_end t ≡ true → all ≡ ps ++ p ∷ []
     → ShowsPart (stretch (faults.stretch ts from at) true) p → SoFar ts ps from at → SoFar ts all after after
 so_far_push ts ps all from at after t p n is ends made shows far = subst (λ xs. SoFar ts xs after after) (sym made) (so_far_end ts ps from at after t p n is ends shows far)
-
-pub length-kinds : (tokens : List Located) → length (kinds tokens) ≡ length tokens
-length-kinds tokens = length-map tokens (λ (located : Located). located.0)
 
 -- no token is left
 

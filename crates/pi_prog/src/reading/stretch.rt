@@ -6,8 +6,8 @@ ghost use Rattle.pi_prog.specs.Pieces as pieces;
 
 use pi_lex::TokenKind;
 
-/// Whether the token is the end point.
-pub(crate) fn is_end(token: TokenKind<'_>) -> bool
+/// Whether the token is the end point, which ends a part; own.
+pub fn is_end(token: TokenKind<'_>) -> bool
     ensures { result ≡ pieces.is_end (token_shown token.entry) }
 {
     match token {

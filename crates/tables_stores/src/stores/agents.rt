@@ -3,7 +3,7 @@
 use crate::bench::Bench;
 use crate::stores::showing::{begin, show, show_number, tell_confined, tell_look, tell_read};
 use pi_types::{Activation, StateStore, Watch, Watches};
-use tables_cases::{Case, named};
+use tables_cases::{Case, EventKind, named, take_event_kind};
 
 /// What a step does.
 #[derive(Clone, Copy)]
@@ -56,30 +56,6 @@ pub fn take_step<S: StateStore>(case: &Case, bench: &mut Bench<S>, name: &str) -
     true
 }
 
-/// A kind of event.
-#[derive(Clone, Copy)]
-enum Kind {
-    Ins,
-    Bound,
-    Dom,
-    DomAny,
-    Posted,
-}
-
-/// Each kind of event with its word.
-const KINDS: [(&str, Kind); 5] = [
-    ("ins", Kind::Ins),
-    ("bound", Kind::Bound),
-    ("dom", Kind::Dom),
-    ("dom_any", Kind::DomAny),
-    ("posted", Kind::Posted),
-];
-
-/// The kind of event with a word.
-fn kind_of(word: &str) -> Option<Kind> {
-    named(&KINDS, word)
-}
-
 /// Makes a call an agent, which waits for events.
 fn suspend<S: StateStore>(case: &Case, bench: &mut Bench<S>) {
     let rule = case.take_number();
@@ -100,18 +76,15 @@ fn suspend<S: StateStore>(case: &Case, bench: &mut Bench<S>) {
 
 /// Takes the words of an event: a kind, a term, and for some kinds a slot.
 fn take_watch<S: StateStore>(case: &Case, bench: &mut Bench<S>) -> Watch {
-    let kind = kind_of(case.take_word());
+    let kind = take_event_kind(case);
     let r = bench.take(case);
     match kind {
-        Some(Kind::Ins) => Watch::Ins(r),
-        Some(Kind::Bound) => Watch::Bound(r),
-        Some(Kind::Dom) => Watch::Dom(r, case.take_slot()),
-        Some(Kind::DomAny) => Watch::DomAny(r, case.take_slot()),
-        Some(Kind::Posted) => Watch::Posted(r, case.take_slot()),
-        None => {
-            case.lacks("a kind of event");
-            Watch::Ins(r)
-        }
+        Some(EventKind::Ins) => Watch::Ins(r),
+        Some(EventKind::Bound) => Watch::Bound(r),
+        Some(EventKind::Dom) => Watch::Dom(r, case.take_slot()),
+        Some(EventKind::DomAny) => Watch::DomAny(r, case.take_slot()),
+        Some(EventKind::Posted) => Watch::Posted(r, case.take_slot()),
+        None => Watch::Ins(r),
     }
 }
 

@@ -1,6 +1,7 @@
 use Rattle.std.proofs.Common.{◌≡◌, length, sym, ◌∙◌, arith}
 use Rattle.pi_lex.specs.Kinds.{kinds}
-use Rattle.pi_prog.proofs.reading.PartLemmas.{so_far_start, so_far_all, so_far_rest, length-kinds}
+use Rattle.pi_prog.proofs.EndLemmas.{length-kinds}
+use Rattle.pi_prog.proofs.reading.PartLemmas.{so_far_start, so_far_all, so_far_rest}
 use Rattle.pi_prog.proofs.reading.read_parts.Goals as goal
 
 pub loop-i-init : goal.loop-i-init

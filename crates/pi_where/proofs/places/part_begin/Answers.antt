@@ -1,6 +1,6 @@
 use Rattle.std.proofs.Common.{◌≤◌, length, inr, refl, arith}
 use Rattle.pi_lex.specs.Kinds.{kinds}
-use Rattle.pi_where.proofs.LineLemmas.{length-kinds}
+use Rattle.pi_prog.proofs.EndLemmas.{length-kinds}
 use Rattle.pi_where.proofs.PlaceLemmas.{begins_next, lacks_from}
 use Rattle.pi_where.proofs.places.part_begin.Goals as goal
 

@@ -1,6 +1,6 @@
 use Rattle.std.proofs.Common.{◌≡◌, ◌<◌, length, refl, sym, subst, ◌∙◌, arith}
 use Rattle.pi_lex.specs.Kinds.{kinds}
-use Rattle.pi_where.proofs.LineLemmas.{length-kinds}
+use Rattle.pi_prog.proofs.EndLemmas.{length-kinds}
 use Rattle.pi_where.proofs.PlaceLemmas.{IsOpenTo, open_none, open_more, ends_at_point, ends_at_last}
 use Rattle.pi_where.proofs.places.part_end.Goals as goal
 

@@ -5,8 +5,8 @@ ghost use Rattle.pi_prop_spec.specs.Places.{places_of, sum_places};
 use pi_constraints::{Constraint, Item, LinTerm};
 use std::alloc::{AllocError, Global};
 
-/// The items at the places of a constraint, in order.
-pub(crate) fn places(alloc: Global, constraint: &Constraint) -> Result<Vec<Item>, AllocError>
+/// The items at the places of a constraint, in order; own. `Err` is want of memory.
+pub fn places(alloc: Global, constraint: &Constraint) -> Result<Vec<Item>, AllocError>
     ensures { IfOk result (λ made. made.items ≡ places_of constraint.now) }
 {
     match constraint {
@@ -66,7 +66,7 @@ fn of_reified(alloc: Global, truth: Item, terms: &[LinTerm]) -> Result<Vec<Item>
     Ok(all)
 }
 
-/// Puts the variables of a sum behind other places.
+/// Puts the variables of a sum after other places.
 fn put_variables(all: &mut Vec<Item>, terms: &[LinTerm]) -> Result<(), AllocError>
     ensures { IfOk result (λ _. all.new.items ≡ all.old.items ++ sum_places terms.now) }
 {

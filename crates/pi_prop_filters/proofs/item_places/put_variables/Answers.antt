@@ -4,7 +4,7 @@ use Rattle.pi_constraints.specs.declared.constraint.Item.{Item}
 use Rattle.pi_prop_spec.specs.Places.{sum_places}
 use Rattle.pi_prop_spec.proofs.SumLemmas.{variable_at}
 use Rattle.pi_prop_filters.proofs.ApartLemmas.{sum_places-take_more}
-use Rattle.pi_sat_check.proofs.items.put_variables.Goals as goal
+use Rattle.pi_prop_filters.proofs.item_places.put_variables.Goals as goal
 
 pub loop-i-init : goal.loop-i-init
 unfolding sum_places
