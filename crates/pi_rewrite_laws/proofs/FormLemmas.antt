@@ -13,11 +13,11 @@ use Rattle.pi_meaning.specs.Shared.Given.{Setting}
 use Rattle.pi_meaning.specs.Shared.Names.{is_catch, is_call, is_given_function}
 use Rattle.pi_meaning.specs.OverNames.Texts.{Names, places, behind}
 use Rattle.pi_meaning.specs.OverNames.Terms.{written_terms}
-use Rattle.pi_meaning.specs.OverNames.Control.{Goal, Value, Values, nothing, in_front, applied_to, called_with, calling_term, goal_at, value_at}
-use Rattle.pi_meaning.specs.OverNames.Forms.{Form, negation, once, assignment, catch, by_term, membership, form_of, Reading, plain, readings, call_goal, indexed_by}
+use Rattle.pi_meaning.specs.OverNames.Control.{Goal, Value, Values, nothing, in_front, applied_to, called_with, goal_at, value_at}
+use Rattle.pi_meaning.specs.OverNames.Forms.{Form, negation, once, assignment, catch, by_term, membership, form_of, Reading, first_reading, later_readings, readings, call_goal, indexed_by}
 use Rattle.pi_meaning.specs.OverNames.Goals.{value_of, values_of}
 use Rattle.pi_rewrite_spec.specs.Slots.{SlotNames}
-use Rattle.pi_rewrite_spec.specs.Values.{SlotValue, SlotValues, slot_term, slot_terms, is_flat, are_flat, as_it_stands, last_value, value_before, value_by, filled_before, no_values, before_values, applied}
+use Rattle.pi_rewrite_spec.specs.Values.{SlotValue, SlotValues, slot_term, slot_terms, is_flat_as, are_flat_as, as_it_stands, last_value_as, value_before_as, value_by_as, filled_before, no_values, before_values, applied}
 use Rattle.pi_rewrite_spec.specs.Goals as slots
 use Rattle.pi_rewrite_spec.specs.Goals.{SlotGoals, SlotParts}
 use Rattle.pi_rewrite_spec.specs.Forms.{Knows, IsTerm, AreTerms, IsPredicateCall, IsAtomGoal}
@@ -31,62 +31,64 @@ use Rattle.pi_rewrite_laws.proofs.AssignLemmas.{assigned-goals}
 
 -- ---- an expression by itself, of what it comes to where it has a call
 
-pub before-value : (known : Knows) (set : Setting) (b : Builtins) (l m : Level) (h : ℕ) → Alike known set b l m → (before : Names) (e : ExpTree) → (is_flat e ≡ true → IsTerm e) → (mk : SlotNames → SlotValue) →
-    (is_flat e ≡ false → SameFilled b l m h (value_of set plain before e) mk) → SameFilled b l m h (value_of set plain before e) (λ ns. value_before h e ns (mk ns))
-before-value known set b l m h alike before e is mk other = go (is_flat e) refl
+pub before-value : (known : Knows) (set : Setting) (b : Builtins) (l m : Level) (h : ℕ) → Alike known set b l m → (r : Reading) (before : Names) (e : ExpTree) → (is_flat_as r e ≡ true → IsTerm e) → (mk : SlotNames → SlotValue) →
+    (is_flat_as r e ≡ false → SameFilled b l m h (value_of set r before e) mk) → SameFilled b l m h (value_of set r before e) (λ ns. value_before_as r h e ns (mk ns))
+before-value known set b l m h alike r before e is mk other = go (is_flat_as r e) refl
   where
-    go : (test : Bool) → is_flat e ≡ test → SameFilled b l m h (value_of set plain before e) (λ ns. value_before h e ns (mk ns))
+    go : (test : Bool) → is_flat_as r e ≡ test → SameFilled b l m h (value_of set r before e) (λ ns. value_before_as r h e ns (mk ns))
     go true flat =
-        subst (λ (test : Bool). SameFilled b l m h (value_of set plain before e) (λ ns. cond test (filled_before h (length ns) (slot_term e ns)) (mk ns))) (sym flat)
-        (flat-filled known set b l m h before e alike (is flat) flat)
+        subst (λ (test : Bool). SameFilled b l m h (value_of set r before e) (λ ns. cond test (filled_before h (length ns) (slot_term e ns)) (mk ns))) (sym flat)
+        (flat-filled known set b l m h r before e alike (is flat) flat)
     go false flat =
-        subst (λ (test : Bool). SameFilled b l m h (value_of set plain before e) (λ ns. cond test (filled_before h (length ns) (slot_term e ns)) (mk ns))) (sym flat) (other flat)
+        subst (λ (test : Bool). SameFilled b l m h (value_of set r before e) (λ ns. cond test (filled_before h (length ns) (slot_term e ns)) (mk ns))) (sym flat) (other flat)
 
-pub last-value : (known : Knows) (set : Setting) (b : Builtins) (l m : Level) (h : ℕ) (before : Names) (e : ExpTree) → (is_flat e ≡ true → IsTerm e) → (mk : SlotNames → SlotValue) →
-    (is_flat e ≡ false → SameFilled b l m h (value_of set plain before e) mk) → SameLast b l m h (value_of set plain before e) (λ ns. last_value e ns (mk ns))
-last-value known set b l m h before e is mk other = go (is_flat e) refl
+pub last-value : (known : Knows) (set : Setting) (b : Builtins) (l m : Level) (h : ℕ) (r : Reading) (before : Names) (e : ExpTree) → (is_flat_as r e ≡ true → IsTerm e) → (mk : SlotNames → SlotValue) →
+    (is_flat_as r e ≡ false → SameFilled b l m h (value_of set r before e) mk) → SameLast b l m h (value_of set r before e) (λ ns. last_value_as r e ns (mk ns))
+last-value known set b l m h r before e is mk other = go (is_flat_as r e) refl
   where
-    go : (test : Bool) → is_flat e ≡ test → SameLast b l m h (value_of set plain before e) (λ ns. last_value e ns (mk ns))
+    go : (test : Bool) → is_flat_as r e ≡ test → SameLast b l m h (value_of set r before e) (λ ns. last_value_as r e ns (mk ns))
     go true flat =
-        subst (λ (test : Bool). SameLast b l m h (value_of set plain before e) (λ ns. cond test (as_it_stands (slot_term e ns)) (mk ns))) (sym flat)
-        (flat-last set b l m h before e (is flat) flat)
+        subst (λ (test : Bool). SameLast b l m h (value_of set r before e) (λ ns. cond test (as_it_stands (slot_term e ns)) (mk ns))) (sym flat)
+        (flat-last set b l m h r before e (is flat) flat)
     go false flat =
-        subst (λ (test : Bool). SameLast b l m h (value_of set plain before e) (λ ns. cond test (as_it_stands (slot_term e ns)) (mk ns))) (sym flat)
-        (filled-last b l m h (value_of set plain before e) mk (other flat))
+        subst (λ (test : Bool). SameLast b l m h (value_of set r before e) (λ ns. cond test (as_it_stands (slot_term e ns)) (mk ns))) (sym flat)
+        (filled-last b l m h (value_of set r before e) mk (other flat))
 
 -- ---- arguments
 
 -- those without a call, of which one stands first
-pub first-flat : (h : ℕ) (e : ExpTree) (es : ExpTrees) → are_flat (exp e es) ≡ true → (mk : SlotNames → SlotValue) (args : SlotNames → SlotValues) → ((ms : SlotNames) → args ms ≡ flat_values (slot_terms es ms)) →
-    (ns : SlotNames) → before_values (value_by (are_flat es) h e ns (mk ns)) (args (value_by (are_flat es) h e ns (mk ns)).names) ≡ flat_values (slot_terms (exp e es) ns)
-unfolding are_flat slot_terms
-first-flat h e es flat mk args rest ns =
-    ap (λ (v : SlotValue). before_values v (args v.names)) (first (both (is_flat e) (are_flat es) flat).0 (both (is_flat e) (are_flat es) flat).1)
+pub first-flat : (h : ℕ) (rs : List Reading) (e : ExpTree) (es : ExpTrees) → are_flat_as rs (exp e es) ≡ true → (mk : SlotNames → SlotValue) (args : SlotNames → SlotValues) → ((ms : SlotNames) → args ms ≡ flat_values (slot_terms es ms)) →
+    (ns : SlotNames) → before_values (value_by_as (first_reading rs) (are_flat_as (later_readings rs) es) h e ns (mk ns)) (args (value_by_as (first_reading rs) (are_flat_as (later_readings rs) es) h e ns (mk ns)).names)
+    ≡ flat_values (slot_terms (exp e es) ns)
+unfolding are_flat_as slot_terms
+first-flat h rs e es flat mk args rest ns =
+    let are : (is_flat_as (first_reading rs) e ≡ true) × (are_flat_as (later_readings rs) es ≡ true) = both (is_flat_as (first_reading rs) e) (are_flat_as (later_readings rs) es) flat in
+    ap (λ (v : SlotValue). before_values v (args v.names)) (first are.0 are.1)
     ∙ ap (before_values (as_it_stands (slot_term e ns))) (rest (slot_term e ns).names)
   where
-    first : is_flat e ≡ true → are_flat es ≡ true → value_by (are_flat es) h e ns (mk ns) ≡ as_it_stands (slot_term e ns)
-    first one all = ap (λ (c : Bool). value_by c h e ns (mk ns)) all ∙ ap (λ (c : Bool). cond c (as_it_stands (slot_term e ns)) (mk ns)) one
+    first : is_flat_as (first_reading rs) e ≡ true → are_flat_as (later_readings rs) es ≡ true → value_by_as (first_reading rs) (are_flat_as (later_readings rs) es) h e ns (mk ns) ≡ as_it_stands (slot_term e ns)
+    first one all = ap (λ (c : Bool). value_by_as (first_reading rs) c h e ns (mk ns)) all ∙ ap (λ (c : Bool). cond c (as_it_stands (slot_term e ns)) (mk ns)) one
 
-pub first-arguments : (known : Knows) (set : Setting) (b : Builtins) (l m : Level) (h : ℕ) → Alike known set b l m → (before : Names) (e : ExpTree) (es : ExpTrees) → (is_flat e ≡ true → IsTerm e) → (are_flat es ≡ true → AreTerms es) →
-    (mk : SlotNames → SlotValue) (args : SlotNames → SlotValues) → (are_flat es ≡ true → (ms : SlotNames) → args ms ≡ flat_values (slot_terms es ms)) →
-    (is_flat e ≡ false → SameFilled b l m h (value_of set plain before e) mk) → SameArguments b l m h (values_of set [] (behind before (places e)) es) args →
-    SameArguments b l m h (in_front (value_of set plain before e) (values_of set [] (behind before (places e)) es)) (λ ns. before_values (value_by (are_flat es) h e ns (mk ns)) (args (value_by (are_flat es) h e ns (mk ns)).names))
-first-arguments known set b l m h alike before e es is are mk args flats other rest = go (are_flat es) refl
+pub first-arguments : (known : Knows) (set : Setting) (b : Builtins) (l m : Level) (h : ℕ) → Alike known set b l m → (r : Reading) (rs : List Reading) (before : Names) (e : ExpTree) (es : ExpTrees) → (is_flat_as r e ≡ true → IsTerm e) →
+    (are_flat_as rs es ≡ true → AreTerms es) → (mk : SlotNames → SlotValue) (args : SlotNames → SlotValues) → (are_flat_as rs es ≡ true → (ms : SlotNames) → args ms ≡ flat_values (slot_terms es ms)) →
+    (is_flat_as r e ≡ false → SameFilled b l m h (value_of set r before e) mk) → SameArguments b l m h (values_of set rs (behind before (places e)) es) args →
+    SameArguments b l m h (in_front (value_of set r before e) (values_of set rs (behind before (places e)) es)) (λ ns. before_values (value_by_as r (are_flat_as rs es) h e ns (mk ns)) (args (value_by_as r (are_flat_as rs es) h e ns (mk ns)).names))
+first-arguments known set b l m h alike r rs before e es is are mk args flats other rest = go (are_flat_as rs es) refl
   where
     vs : Values
-    vs = values_of set [] (behind before (places e)) es
+    vs = values_of set rs (behind before (places e)) es
 
-    go : (test : Bool) → are_flat es ≡ test →
-        SameArguments b l m h (in_front (value_of set plain before e) (values_of set [] (behind before (places e)) es)) (λ ns. before_values (value_by (are_flat es) h e ns (mk ns)) (args (value_by (are_flat es) h e ns (mk ns)).names))
+    go : (test : Bool) → are_flat_as rs es ≡ test →
+        SameArguments b l m h (in_front (value_of set r before e) (values_of set rs (behind before (places e)) es)) (λ ns. before_values (value_by_as r (are_flat_as rs es) h e ns (mk ns)) (args (value_by_as r (are_flat_as rs es) h e ns (mk ns)).names))
     go true flat =
-        subst (λ (test : Bool). SameArguments b l m h (in_front (value_of set plain before e) vs) (λ ns. before_values (value_by test h e ns (mk ns)) (args (value_by test h e ns (mk ns)).names))) (sym flat)
-        (subst (λ (f : SlotNames → SlotValues). SameArguments b l m h (in_front (value_of set plain before e) vs) (λ ns. before_values (last_value e ns (mk ns)) (f (last_value e ns (mk ns)).names)))
+        subst (λ (test : Bool). SameArguments b l m h (in_front (value_of set r before e) vs) (λ ns. before_values (value_by_as r test h e ns (mk ns)) (args (value_by_as r test h e ns (mk ns)).names))) (sym flat)
+        (subst (λ (f : SlotNames → SlotValues). SameArguments b l m h (in_front (value_of set r before e) vs) (λ ns. before_values (last_value_as r e ns (mk ns)) (f (last_value_as r e ns (mk ns)).names)))
         (λ i ns. sym (flats flat ns) i)
-        (last-arguments b l m h (value_of set plain before e) vs (λ ns. last_value e ns (mk ns)) es (last-value known set b l m h before e is mk other) (are flat)
-        (λ p. flat-values set (behind before (places e)) es flat m p)))
+        (last-arguments b l m h (value_of set r before e) vs (λ ns. last_value_as r e ns (mk ns)) es (last-value known set b l m h r before e is mk other) (are flat)
+        (λ p. flat-values set rs (behind before (places e)) es flat m p)))
     go false flat =
-        subst (λ (test : Bool). SameArguments b l m h (in_front (value_of set plain before e) vs) (λ ns. before_values (value_by test h e ns (mk ns)) (args (value_by test h e ns (mk ns)).names))) (sym flat)
-        (front-arguments b l m h (value_of set plain before e) vs (λ ns. value_before h e ns (mk ns)) args (before-value known set b l m h alike before e is mk other) rest)
+        subst (λ (test : Bool). SameArguments b l m h (in_front (value_of set r before e) vs) (λ ns. before_values (value_by_as r test h e ns (mk ns)) (args (value_by_as r test h e ns (mk ns)).names))) (sym flat)
+        (front-arguments b l m h (value_of set r before e) vs (λ ns. value_before_as r h e ns (mk ns)) args (before-value known set b l m h alike r before e is mk other) rest)
 
 -- arguments that stand in no list: a function's that is written otherwise
 pub other-arguments : (known : Knows) (set : Setting) (b : Builtins) (l m : Level) (h : ℕ) (name : List ℕ) (k : ℕ) (vs : Values) (lvs : SlotNames → SlotValues) → Alike known set b l m → SameArguments b l m h vs lvs →
@@ -134,12 +136,11 @@ a-term name k is = form-term _ _ _ (is_catch name k) (is_call name k) _ is
 
 pub call-goals : (known : Knows) (set : Setting) (b : Builtins) (l m : Level) (h : ℕ) → Alike known set b l m → (name : List ℕ) (k : ℕ) (form : Option Form) → form_of name k ≡ form → (exps : Type 0) (value goal : ℕ → Type 0) →
     IsPredicateCall known form name k exps value goal → (before : Names) (es : ExpTrees) (variable : Option (List ℕ)) (gs : List Goal) (vs late : List Value) (lgs : List (SlotNames → SlotGoals)) (lvs : List (SlotNames → SlotValue)) (lall : SlotNames → SlotValues) →
-    SameCallParts b l m h goal value gs vs lgs lvs → (exps → SameArguments b l m h (values_of set [] before es) lall) → ((ns : SlotNames) → tree_count (trees_of (lall ns).trees) ≡ k) →
+    SameCallParts b l m h goal value gs vs lgs lvs → (exps → SameArguments b l m h (values_of set (readings name k) before es) lall) → ((ns : SlotNames) → tree_count (trees_of (lall ns).trees) ≡ k) →
     SameGoals b l m h (call_goal set name form (record { variable = variable; goals = gs; values = vs; late = late; all = values_of set (readings name k) before es }))
     (slots.call_goals name form (record { variable = variable; goals = lgs; values = lvs; all = lall }))
 call-goals known set b l m h alike name k None form exps value goal is before es variable gs vs late lgs lvs lall same args long =
-    subst (λ (rs : List Reading). SameGoals b l m h (called_with set name (values_of set rs before es)) (λ ns. slots.called name (lall ns))) (sym is.1)
-    (called-goals known set b l m h name k (values_of set [] before es) lall alike (args is.0) long (no-term name k form) is.2)
+    called-goals known set b l m h name k (values_of set (readings name k) before es) lall alike (args is.0) long (no-term name k form) is.1
 call-goals known set b l m h alike name k (Some negation) form exps value goal is before es variable gs vs late lgs lvs lall same args long =
     denied-goals known set b l m h (goal_at gs 0) (slots.goals_at lgs 0) alike (same.goals 0 is)
 call-goals known set b l m h alike name k (Some once) form exps value goal is before es variable gs vs late lgs lvs lall same args long =
@@ -149,8 +150,7 @@ call-goals known set b l m h alike name k (Some assignment) form exps value goal
 call-goals known set b l m h alike name k (Some catch) form exps value goal is before es variable gs vs late lgs lvs lall same args long =
     caught-goals known set b l m h (goal_at gs 0) (value_at vs 1) (goal_at gs 2) (slots.goals_at lgs 0) (slots.goals_at lgs 2) (slots.value_at lvs 1) alike (same.goals 0 is.0) (same.values 1 is.1) (same.goals 2 is.2)
 call-goals known set b l m h alike name k (Some by_term) form exps value goal is before es variable gs vs late lgs lvs lall same args long =
-    subst (λ (rs : List Reading). SameGoals b l m h (calling_term set (values_of set rs before es)) (λ ns. slots.called name (lall ns))) (sym is.1)
-    (terms-goals known set b l m h name k (values_of set [] before es) lall alike (args is.0) long (a-term name k form))
+    terms-goals known set b l m h name k (values_of set (readings name k) before es) lall alike (args is) long (a-term name k form)
 call-goals known set b l m h alike name k (Some membership) form exps value goal is before es variable gs vs late lgs lvs lall same args long = absurd is
 
 pub atom-goals : (known : Knows) (set : Setting) (b : Builtins) (l m : Level) (h : ℕ) → Alike known set b l m → (name : List ℕ) (is_true is_fail : Bool) → IsAtomGoal known is_true is_fail name →

@@ -65,11 +65,11 @@ use Rattle.pi_meaning.specs.OverNames.Rules.{modes_named, rules_called, facts_ca
 use Rattle.pi_meaning.specs.OverNames.Prelude.{prelude, calls, exps, v, equal, all}
 use Rattle.pi_meaning.specs.OverNames.Run.{names_from, names_trace, answer_names}
 use Rattle.pi_rewrite_spec.specs.Slots.{slot_of, named_slots, slots_behind}
-use Rattle.pi_rewrite_spec.specs.Values.{slot_term, is_flat, is_below, slot_pattern}
+use Rattle.pi_rewrite_spec.specs.Values.{is_flat_as, slot_term, is_below, slot_pattern}
 use Rattle.pi_rewrite_spec.specs.Goals.{goals_at as slot_goals_at, value_at as slot_value_at, indexed_by as slots_indexed_by}
 use Rattle.pi_rewrite_spec.specs.Loops.{slots_from, slots_head, with_values, closing, closing_slots, as_written, kept_goals}
 use Rattle.pi_rewrite_spec.specs.Sites.{helpers_in, following_sites}
-use Rattle.pi_rewrite_spec.specs.Written.{made}
+use Rattle.pi_rewrite_spec.specs.Written.{made_as}
 use Rattle.pi_rewrite_spec.specs.Helpers.{helpers_at, value_helpers}
 use Rattle.pi_rewrite_spec.specs.Clauses.{grouped}
 use Rattle.pi_rewrite_spec.specs.Programs.{Naming, clauses_of, helpers_of, core_program, core_query}
@@ -83,7 +83,7 @@ own n = 126 ∷ (48 + n) ∷ []
 
 -- a goal that is asked of a program with no clauses
 unfoldable over_slots : ExpTree → ℕ → Trace Told
-unfolding query_from told named_values draining strictly calling applying collecting counting catching pred_run function_run calls_of level_at quiet_level rules find_pred meaning meaning_of_all list_of_copies new_in_all with_new_variables then alt first negated chosen collected counted caught evaluated evaluated_all matched_in matched_all_in drained settled thrown exception_with type_error raised_with copy occurrences firsts all_unified unified_for outcome assigned joined in_pairs most_pairs unbound_in cells_of_pairs cells value rounds instance followed followed_for order tree_count each_tree list_onto items_for list_items indexed values_by total operation power predicate_given predicate_called function_given function_called called_at_level first_called later_predicates is_later_predicate is_later_function done_by has_line integer_functions comparing_tests kind_tests collection_functions sorting_functions index_functions range_functions naming_functions text_functions writing_predicates making_functions reading_functions built_in_function tests other_predicates built_in_predicate is_predicate is_reserved is_unquoted_atom stands_bare atom_text is_characters characters written chars encode_utf8 digits slot_of named_slots slots_behind slot_term is_flat is_below slot_pattern made slot_goals_at slot_value_at slots_indexed_by items_onto form_of exp_count slots_from slots_head with_values closing closing_slots as_written kept_goals told_behind places behind core_query core_program clauses_of helpers_of grouped helpers_in following_sites helpers_at value_helpers places_all places_caught places_of_branches occurring occurring_all occurring_in_branches patterns_of assigned_names assigned_all assigned_in_branches prelude
+unfolding query_from told named_values draining strictly calling applying collecting counting catching pred_run function_run calls_of level_at quiet_level rules find_pred meaning meaning_of_all list_of_copies new_in_all with_new_variables then alt first negated chosen collected counted caught evaluated evaluated_all matched_in matched_all_in drained settled thrown exception_with type_error raised_with copy occurrences firsts all_unified unified_for outcome assigned joined in_pairs most_pairs unbound_in cells_of_pairs cells value rounds instance followed followed_for order tree_count each_tree list_onto items_for list_items indexed values_by total operation power predicate_given predicate_called function_given function_called called_at_level first_called later_predicates is_later_predicate is_later_function done_by has_line integer_functions comparing_tests kind_tests collection_functions sorting_functions index_functions range_functions naming_functions text_functions writing_predicates making_functions reading_functions built_in_function tests other_predicates built_in_predicate is_predicate is_reserved is_unquoted_atom stands_bare atom_text is_characters characters written chars encode_utf8 digits slot_of named_slots slots_behind slot_term is_flat_as is_below slot_pattern made_as slot_goals_at slot_value_at slots_indexed_by items_onto form_of exp_count slots_from slots_head with_values closing closing_slots as_written kept_goals told_behind places behind core_query core_program clauses_of helpers_of grouped helpers_in following_sites helpers_at value_helpers places_all places_caught places_of_branches occurring occurring_all occurring_in_branches patterns_of assigned_names assigned_all assigned_in_branches prelude
 over_slots goal d =
     let preds : List PredTree = core_program own [] in
     let q : QueryTree = core_query own goal in

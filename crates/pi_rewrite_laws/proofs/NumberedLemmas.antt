@@ -8,17 +8,18 @@ use Rattle.pi_syntax.specs.Signature.{exp_count}
 use Rattle.pi_core.specs.CoreTree.{PredTree}
 use Rattle.pi_meaning.specs.OverNames.Texts.{Names, places, places_all, places_of_branches, iterated, begins_with_iterator, assigned, kept_names}
 use Rattle.pi_meaning.specs.OverNames.Loops.{hidden}
-use Rattle.pi_meaning.specs.OverNames.Forms.{Form, negation, once, assignment, catch, by_term, membership, form_of, is_find_all, is_count_all}
+use Rattle.pi_meaning.specs.OverNames.Forms.{Form, negation, once, assignment, catch, by_term, membership, form_of, Reading, plain, readings, first_reading, later_readings, operand_readings, is_find_all, is_count_all}
 use Rattle.pi_rewrite_spec.specs.Slots.{SlotNames}
-use Rattle.pi_rewrite_spec.specs.Values.{last_value}
+use Rattle.pi_rewrite_spec.specs.Values.{stays, last_value}
 use Rattle.pi_rewrite_spec.specs.Goals.{SlotGoals}
-use Rattle.pi_rewrite_spec.specs.Forms.{Knows, IsPattern, ArePatterns, IsFunctionCall, IsPredicateCall, IsUnit, IsAssigned, IsExpression, AreExpressions, IsExpressionAt, IsGoalAt, IsGoal, AreGoals, AreBranches, IsBranch, HaveGoals, AreUnits, IsCollection}
+use Rattle.pi_rewrite_spec.specs.Forms.{IsRead, AreRead, Knows, IsPattern, ArePatterns, IsFunctionCall, IsNode, IsPredicateCall, IsUnit, IsAssigned, IsExpressionAt, IsGoalAt, IsGoal, AreGoals, AreBranches, IsBranch, HaveGoals, AreUnits, IsCollection}
 use Rattle.pi_rewrite_spec.specs.Sites.{Site, iterator_helpers, helpers_in, helpers_in_all, helpers_in_branches, helpers_in_units, behind_site, behind_exp, goal_sites, value_sites, following_sites}
 use Rattle.pi_rewrite_spec.specs.Loops.{Ending, as_it_is, in_order, Loop, while_helper, do_helper, only_turn_helper}
 use Rattle.pi_rewrite_spec.specs.Comprehensions.{adding}
 use Rattle.pi_rewrite_spec.specs.Written.{Inner, while_loop, do_loop, turns_of, inner_of, gathering, gathered_at, start_loop, iterator_loop, turn_name, is_range, elements_of, made, goal_of, units}
 use Rattle.pi_rewrite_spec.specs.Helpers.{own_helpers, helpers_at, goal_call_helpers, iterated_helpers, unit_helpers, started_helpers, value_helpers, all_helpers, values_helpers, goals_helpers, goal_helpers, conjunct_helpers, branch_helpers, units_helpers, collection_helpers, iterator_text}
 use Rattle.pi_rewrite_spec.specs.Programs.{Naming}
+use Rattle.pi_rewrite_spec.proofs.ReadingLemmas.{third-of}
 use Rattle.pi_rewrite_laws.proofs.FormCounts.{negates-one, takes-one, catches-three}
 use Rattle.pi_rewrite_laws.proofs.TextCalls.{exp_at, too-many}
 
@@ -93,14 +94,14 @@ GoalNumbered known s es i = IsGoalAt known es i → Numbered s.called s.helpers 
 abbrev ValueNumbered : Knows → Site → ExpTrees → ℕ → Type 0
 ValueNumbered known s es i = IsExpressionAt known es i → Numbered s.called s.helpers (helpers_in (exp_at es i)) (value_helpers s (exp_at es i))
 
-abbrev AllNumbered : Knows → Site → ExpTrees → Type 0
-AllNumbered known s es = AreExpressions known es → Numbered s.called s.helpers (helpers_in_all es) (all_helpers s es)
+abbrev AllNumbered : Knows → Site → List Reading → ExpTrees → Type 0
+AllNumbered known s rs es = AreRead known rs es → Numbered s.called s.helpers (helpers_in_all es) (all_helpers s es)
 
-function-numbered : (known : Knows) (s : Site) (name : List ℕ) (es : ExpTrees) → ((t : Site) (i : ℕ) → GoalNumbered known t es i) → ((t : Site) (i : ℕ) → ValueNumbered known t es i) → AllNumbered known s es → (find count : Bool) → is_find_all name (exp_count es) ≡ find →
-    is_count_all name (exp_count es) ≡ count → IsFunctionCall known find count name (exp_count es) (AreExpressions known es) (IsExpressionAt known es) (IsGoalAt known es) →
+function-numbered : (known : Knows) (s : Site) (name : List ℕ) (es : ExpTrees) → ((t : Site) (i : ℕ) → GoalNumbered known t es i) → ((t : Site) (i : ℕ) → ValueNumbered known t es i) → AllNumbered known s [] es → (find count : Bool) → is_find_all name (exp_count es) ≡ find →
+    is_count_all name (exp_count es) ≡ count → IsFunctionCall known find count name (exp_count es) (AreRead known [] es) (IsExpressionAt known es) (IsGoalAt known es) →
     Numbered s.called s.helpers (helpers_in_all es) (cond find (helpers_at (goals_helpers (value_sites find s es) es) 1 ++ helpers_at (values_helpers (value_sites find s es) es) 0)
     (cond count (helpers_at (goals_helpers (value_sites find s es) es) 0) (all_helpers s es)))
-unfolding IsExpression IsGoal helpers_in helpers_at value_helpers goal_helpers following_sites exp_at exp_count
+unfolding IsRead IsGoal helpers_in helpers_at value_helpers goal_helpers following_sites exp_at exp_count
 function-numbered known s name no_exps goals values all true count find counts is = absurd is.0
 function-numbered known s name (exp e no_exps) goals values all true count find counts is = absurd is.1
 function-numbered known s name (exp e (exp g no_exps)) goals values all true count find counts is =
@@ -117,12 +118,21 @@ function-numbered known s name (exp e (exp x es)) goals values all false true fi
     absurd (too-many 1 (suc (suc (exp_count es))) (omega arith) (and_parts (suc (suc (exp_count es)) == 1) (bytes_eq name (codes "count_all")) counts).0)
 function-numbered known s name es goals values all false false find counts is = all is.0
 
-goal-call-numbered : (known : Knows) (s : Site) (name : List ℕ) (es : ExpTrees) → ((t : Site) (i : ℕ) → GoalNumbered known t es i) → ((t : Site) (i : ℕ) → ValueNumbered known t es i) → AllNumbered known s es → (form : Option Form) →
-    form_of name (exp_count es) ≡ form → IsPredicateCall known form name (exp_count es) (AreExpressions known es) (IsExpressionAt known es) (IsGoalAt known es) → IsAssigned form es →
+-- a call that may stay as a structure
+node-numbered : (known : Knows) (s : Site) (r : Reading) (name : List ℕ) (es : ExpTrees) → AllNumbered known s (operand_readings r name (exp_count es)) es → (called : Type 0) (x y : List PredTree) →
+    (called → Numbered s.called s.helpers (helpers_in_all es) (cond (is_find_all name (exp_count es)) x (cond (is_count_all name (exp_count es)) y (all_helpers s es)))) → (test : Bool) → stays r name (exp_count es) ≡ test →
+    IsNode test (AreRead known (operand_readings r name (exp_count es)) es) called →
+    Numbered s.called s.helpers (helpers_in_all es) (cond (is_find_all name (exp_count es)) x (cond (is_count_all name (exp_count es)) y (all_helpers s es)))
+node-numbered known s r name es all called x y function true stays is =
+    subst (λ (ps : List PredTree). Numbered s.called s.helpers (helpers_in_all es) ps) (sym (third-of r name (exp_count es) stays x y (all_helpers s es))) (all is)
+node-numbered known s r name es all called x y function false stays is = function is
+
+goal-call-numbered : (known : Knows) (s : Site) (name : List ℕ) (es : ExpTrees) → ((t : Site) (i : ℕ) → GoalNumbered known t es i) → ((t : Site) (i : ℕ) → ValueNumbered known t es i) → AllNumbered known s (readings name (exp_count es)) es → (form : Option Form) →
+    form_of name (exp_count es) ≡ form → IsPredicateCall known form name (exp_count es) (AreRead known (readings name (exp_count es)) es) (IsExpressionAt known es) (IsGoalAt known es) → IsAssigned form es →
     Numbered s.called s.helpers (helpers_in_all es) (goal_call_helpers form (record { goals = goals_helpers (goal_sites form s es) es; values = values_helpers (goal_sites form s es) es; all = all_helpers s es }))
-unfolding IsExpression IsGoal helpers_in helpers_at value_helpers goal_helpers following_sites exp_at exp_count
+unfolding IsRead IsGoal helpers_in helpers_at value_helpers goal_helpers following_sites exp_at exp_count
 goal-call-numbered known s name es goals values all None form is variable = all is.0
-goal-call-numbered known s name es goals values all (Some by_term) form is variable = all is.0
+goal-call-numbered known s name es goals values all (Some by_term) form is variable = all is
 goal-call-numbered known s name no_exps goals values all (Some negation) form is variable = absurd is
 goal-call-numbered known s name (exp e no_exps) goals values all (Some negation) form is variable = again-numbered s.called s.helpers (helpers_in e) (helpers_in e + 0) (goal_helpers s e) (omega arith) (goals s 0 is)
 goal-call-numbered known s name (exp e (exp x es)) goals values all (Some negation) form is variable = absurd (too-many 1 (suc (suc (exp_count es))) (omega arith) (negates-one name (exp_count (exp e (exp x es))) form))
@@ -203,45 +213,47 @@ first-of name x e is = go (bytes_eq name (codes "in")) is
 -- ---- expressions and goals
 
 mutual
-  unfolding IsExpression IsGoal helpers_in value_helpers goal_helpers helpers_at following_sites exp_at exp_count
+  unfolding IsRead IsGoal helpers_in value_helpers goal_helpers helpers_at following_sites exp_at exp_count
 
-  pub value-numbered : (known : Knows) (s : Site) (e : ExpTree) → IsExpression known e → Numbered s.called s.helpers (helpers_in e) (value_helpers s e)
-  value-numbered known s (var name) is = none-numbered s.called s.helpers
-  value-numbered known s (int n) is = none-numbered s.called s.helpers
-  value-numbered known s (atom name) is = none-numbered s.called s.helpers
-  value-numbered known s (str text) is = none-numbered s.called s.helpers
-  value-numbered known s (list es) is = all-numbered known s es is
-  value-numbered known s (list_onto es e) is =
+  pub value-numbered : (known : Knows) (s : Site) (r : Reading) (e : ExpTree) → IsRead known r e → Numbered s.called s.helpers (helpers_in e) (value_helpers s e)
+  value-numbered known s r (var name) is = none-numbered s.called s.helpers
+  value-numbered known s r (int n) is = none-numbered s.called s.helpers
+  value-numbered known s r (atom name) is = none-numbered s.called s.helpers
+  value-numbered known s r (str text) is = none-numbered s.called s.helpers
+  value-numbered known s r (list es) is = all-numbered known s [] es is
+  value-numbered known s r (list_onto es e) is =
       let t : Site = behind_site s (places_all es) (helpers_in_all es) in
-      both-numbered s.called s.helpers (helpers_in_all es) t.helpers (helpers_in e) (helpers_in_all es + helpers_in e) (all_helpers s es) (value_helpers t e) refl refl (all-numbered known s es is.0) (value-numbered known t e is.1)
-  value-numbered known s (array es) is = all-numbered known s es is
-  value-numbered known s (call name es) is =
-      function-numbered known s name es (λ t i fits. goal-at-numbered known t es i fits) (λ t i fits. value-at-numbered known t es i fits) (λ are. all-numbered known s es are) (is_find_all name (exp_count es)) (is_count_all name (exp_count es)) refl refl is
-  value-numbered known s (quote e) is = none-numbered s.called s.helpers
-  value-numbered known s (index e es) is =
+      both-numbered s.called s.helpers (helpers_in_all es) t.helpers (helpers_in e) (helpers_in_all es + helpers_in e) (all_helpers s es) (value_helpers t e) refl refl (all-numbered known s [] es is.0) (value-numbered known t plain e is.1)
+  value-numbered known s r (array es) is = all-numbered known s [] es is
+  value-numbered known s r (call name es) is =
+      node-numbered known s r name es (λ are. all-numbered known s (operand_readings r name (exp_count es)) es are) _ _ _
+      (λ function. function-numbered known s name es (λ t i fits. goal-at-numbered known t es i fits) (λ t i fits. value-at-numbered known t es i fits) (λ are. all-numbered known s [] es are) (is_find_all name (exp_count es)) (is_count_all name (exp_count es)) refl refl function)
+      (stays r name (exp_count es)) refl is
+  value-numbered known s r (quote e) is = none-numbered s.called s.helpers
+  value-numbered known s r (index e es) is =
       let t : Site = behind_exp s e in
-      both-numbered s.called s.helpers (helpers_in e) t.helpers (helpers_in_all es) (helpers_in e + helpers_in_all es) (value_helpers s e) (all_helpers t es) refl refl (value-numbered known s e is.0) (all-numbered known t es is.1)
-  value-numbered known s (range first last) is =
+      both-numbered s.called s.helpers (helpers_in e) t.helpers (helpers_in_all es) (helpers_in e + helpers_in_all es) (value_helpers s e) (all_helpers t es) refl refl (value-numbered known s plain e is.0) (all-numbered known t [] es is.1)
+  value-numbered known s r (range first last) is =
       let t : Site = behind_exp s first in
-      both-numbered s.called s.helpers (helpers_in first) t.helpers (helpers_in last) (helpers_in first + helpers_in last) (value_helpers s first) (value_helpers t last) refl refl (value-numbered known s first is.0) (value-numbered known t last is.1)
-  value-numbered known s (range_by first step last) is =
+      both-numbered s.called s.helpers (helpers_in first) t.helpers (helpers_in last) (helpers_in first + helpers_in last) (value_helpers s first) (value_helpers t last) refl refl (value-numbered known s plain first is.0) (value-numbered known t plain last is.1)
+  value-numbered known s r (range_by first step last) is =
       let t : Site = behind_exp s first in
       let u : Site = behind_site s (places first ++ places step) (helpers_in first + helpers_in step) in
       both-numbered s.called s.helpers (helpers_in first) t.helpers (helpers_in step + helpers_in last) (helpers_in first + (helpers_in step + helpers_in last)) (value_helpers s first) (value_helpers t step ++ value_helpers u last) refl refl
-      (value-numbered known s first is.0)
-      (both-numbered s.called t.helpers (helpers_in step) u.helpers (helpers_in last) (helpers_in step + helpers_in last) (value_helpers t step) (value_helpers u last) (omega arith) refl (value-numbered known t step is.1) (value-numbered known u last is.2))
-  value-numbered known s (collect is_array e es) is =
+      (value-numbered known s plain first is.0)
+      (both-numbered s.called t.helpers (helpers_in step) u.helpers (helpers_in last) (helpers_in step + helpers_in last) (value_helpers t step) (value_helpers u last) (omega arith) refl (value-numbered known t plain step is.1) (value-numbered known u plain last is.2))
+  value-numbered known s r (collect is_array e es) is =
       let t : Site = gathered_at s in
       let lbody : Site → SlotNames → SlotGoals = λ u ms. adding (last_value e ms (made u e ms)) in
       started-numbered t (in_order is_array) (hidden ∷ []) (gathering e) es (λ u ending. units_helpers u ending (gathering e) es lbody (λ v. value_helpers v e)) (λ u. units u as_it_is (gathering e) es lbody)
-      (λ u ending same. units-numbered known s.called u same ending (gathering e) es is.0 lbody (λ v. value_helpers v e) (λ v. value-numbered known v e is.1)) (begins_with_iterator es)
-  value-numbered known s e is = absurd is
+      (λ u ending same. units-numbered known s.called u same ending (gathering e) es is.0 lbody (λ v. value_helpers v e) (λ v. value-numbered known v plain e is.1)) (begins_with_iterator es)
+  value-numbered known s r e is = absurd is
 
-  pub all-numbered : (known : Knows) (s : Site) (es : ExpTrees) → AreExpressions known es → Numbered s.called s.helpers (helpers_in_all es) (all_helpers s es)
-  all-numbered known s no_exps is = none-numbered s.called s.helpers
-  all-numbered known s (exp e es) is =
+  pub all-numbered : (known : Knows) (s : Site) (rs : List Reading) (es : ExpTrees) → AreRead known rs es → Numbered s.called s.helpers (helpers_in_all es) (all_helpers s es)
+  all-numbered known s rs no_exps is = none-numbered s.called s.helpers
+  all-numbered known s rs (exp e es) is =
       let t : Site = behind_exp s e in
-      both-numbered s.called s.helpers (helpers_in e) t.helpers (helpers_in_all es) (helpers_in e + helpers_in_all es) (value_helpers s e) (all_helpers t es) refl refl (value-numbered known s e is.0) (all-numbered known t es is.1)
+      both-numbered s.called s.helpers (helpers_in e) t.helpers (helpers_in_all es) (helpers_in e + helpers_in_all es) (value_helpers s e) (all_helpers t es) refl refl (value-numbered known s (first_reading rs) e is.0) (all-numbered known t (later_readings rs) es is.1)
 
   goal-at-numbered : (known : Knows) (s : Site) (es : ExpTrees) (i : ℕ) → GoalNumbered known s es i
   goal-at-numbered known s no_exps i is = absurd is
@@ -250,13 +262,13 @@ mutual
 
   value-at-numbered : (known : Knows) (s : Site) (es : ExpTrees) (i : ℕ) → ValueNumbered known s es i
   value-at-numbered known s no_exps i is = absurd is
-  value-at-numbered known s (exp e es) zero is = value-numbered known s e is
+  value-at-numbered known s (exp e es) zero is = value-numbered known s plain e is
   value-at-numbered known s (exp e es) (suc i) is = value-at-numbered known s es i is
 
   pub goal-numbered : (known : Knows) (s : Site) (e : ExpTree) → IsGoal known e → Numbered s.called s.helpers (helpers_in e) (goal_helpers s e)
   goal-numbered known s (atom name) is = none-numbered s.called s.helpers
   goal-numbered known s (call name es) is =
-      goal-call-numbered known s name es (λ t i fits. goal-at-numbered known t es i fits) (λ t i fits. value-at-numbered known t es i fits) (λ are. all-numbered known s es are) (form_of name (exp_count es)) refl is.0 is.1
+      goal-call-numbered known s name es (λ t i fits. goal-at-numbered known t es i fits) (λ t i fits. value-at-numbered known t es i fits) (λ are. all-numbered known s (readings name (exp_count es)) es are) (form_of name (exp_count es)) refl is.0 is.1
   goal-numbered known s (and es) is = and-numbered known s es is
   goal-numbered known s (or es) is = or-numbered known s es is
   goal-numbered known s (if_then bs) is = branches-numbered known s bs is
@@ -302,7 +314,7 @@ mutual
       both-numbered s.called s.helpers (helpers_in c) t.helpers (helpers_in e) (helpers_in c + helpers_in e) (goal_helpers s c) (goal_helpers t e) refl refl (goal-numbered known s c is.0) (goal-numbered known t e is.1)
   way-numbered known s (atom name) is = none-numbered s.called s.helpers
   way-numbered known s (call name es) is =
-      goal-call-numbered known s name es (λ t i fits. goal-at-numbered known t es i fits) (λ t i fits. value-at-numbered known t es i fits) (λ are. all-numbered known s es are) (form_of name (exp_count es)) refl is.0 is.1
+      goal-call-numbered known s name es (λ t i fits. goal-at-numbered known t es i fits) (λ t i fits. value-at-numbered known t es i fits) (λ are. all-numbered known s (readings name (exp_count es)) es are) (form_of name (exp_count es)) refl is.0 is.1
   way-numbered known s (and es) is = and-numbered known s es is
   way-numbered known s (or es) is = or-numbered known s es is
   way-numbered known s (if_then bs) is = branches-numbered known s bs is
@@ -349,6 +361,6 @@ mutual
   collection-numbered known s (call name no_exps) e some pattern is = absurd is
   collection-numbered known s (call name (exp x no_exps)) e some pattern is = absurd is
   collection-numbered known s (call name (exp x (exp d no_exps))) e some pattern is =
-      again-numbered s.called s.helpers (helpers_in d) (helpers_in x + (helpers_in d + 0)) (value_helpers s d) (omega (arith, pattern-none x (subst (λ (y : ExpTree). IsPattern y) (sym (first-of name x e some)) pattern))) (value-numbered known s d is)
+      again-numbered s.called s.helpers (helpers_in d) (helpers_in x + (helpers_in d + 0)) (value_helpers s d) (omega (arith, pattern-none x (subst (λ (y : ExpTree). IsPattern y) (sym (first-of name x e some)) pattern))) (value-numbered known s plain d is)
   collection-numbered known s (call name (exp x (exp d (exp y es)))) e some pattern is = absurd (none-some e some)
   collection-numbered known s u e some pattern is = absurd is

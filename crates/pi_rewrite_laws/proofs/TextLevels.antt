@@ -19,6 +19,7 @@ use Rattle.pi_meaning.specs.OverNames.Stages.{RulesSetting}
 use Rattle.pi_meaning.specs.OverNames.Rules as over_names
 use Rattle.pi_meaning.specs.OverNames.Rules.{places_in, names_before, function_names, rules_named, facts_named, functions_named, modes_named, predicate_run, functions_called, body_or_none, level_for, call_made}
 use Rattle.pi_meaning.proofs.OverNames.LoopNames.{AreNamed, behind-named}
+use Rattle.pi_meaning.specs.OverNames.Forms.{plain}
 use Rattle.pi_rewrite_spec.specs.Values.{last_value}
 use Rattle.pi_rewrite_spec.specs.Forms.{Knows}
 use Rattle.pi_rewrite_spec.specs.Sites.{Site}
@@ -97,8 +98,8 @@ functions-written c each called w all _ _ (one_more_function n f fs cs is few ha
         fits = omega (arith, few);
         has = have-first c (option_helpers t f.body) (value_helpers u f.value) (have-last c (option_helpers s f.cond) later has);
       });
-      value = last-value c.known c.set.calls c.builtins (slots_level c w) (names_level c w) u.filled u.before f.value (flat-term c.known f.value is.value) (made u f.value)
-          (made-same c each w u f.value is.value (record {
+      value = last-value c.known c.set.calls c.builtins (slots_level c w) (names_level c w) u.filled plain u.before f.value (flat-term c.known plain f.value is.value) (made u f.value)
+          (made-same c each w u plain f.value is.value (record {
             named = behind-named (names_before f.head f.cond) (places_in f.body) (behind-named (behind [] (places f.head)) (places_in f.cond) (head-named f.head));
             few = omega (arith, few, all);
             fits = omega (arith, few);

@@ -9,6 +9,7 @@ use Rattle.pi_syntax.specs.Signature.{Signature, signature}
 use Rattle.pi_core.specs.CoreTree.{ClauseTree, PredTree, index_of}
 use Rattle.pi_meaning.specs.OverNames.WrittenRules.{is_signature, is_rule_of, rule_in, rules_of, head_arguments}
 use Rattle.pi_meaning.specs.OverNames.Rules.{function_in, fact_head, is_head_of, rules_named, facts_named, functions_named}
+use Rattle.pi_meaning.specs.OverNames.Forms.{plain}
 use Rattle.pi_rewrite_spec.specs.Forms.{Knows, ArePatterns}
 use Rattle.pi_rewrite_spec.specs.Clauses.{named_by, Lowering}
 use Rattle.pi_rewrite_spec.specs.Helpers.{value_helpers, goal_helpers}
@@ -44,7 +45,7 @@ function-numbered known called n f is =
     let u : Site = value_site called n f in
     both-numbered called n (option_count f.cond) t.helpers (option_count f.body + helpers_in f.value) (function_count f) (option_helpers s f.cond) (option_helpers t f.body ++ value_helpers u f.value) refl refl (option-numbered known s f.cond is.cond)
     (both-numbered called t.helpers (option_count f.body) u.helpers (helpers_in f.value) (option_count f.body + helpers_in f.value) (option_helpers t f.body) (value_helpers u f.value) (omega arith) refl (option-numbered known t f.body is.body)
-    (value-numbered known u f.value is.value))
+    (value-numbered known u plain f.value is.value))
 
 clause-numbered : (known : Knows) (called : Naming) (n : ℕ) (o : Option WrittenClause) → IsClause known o → Numbered called n (clause_count o) (clause_helpers called n o)
 clause-numbered known called n None is = none-numbered called n

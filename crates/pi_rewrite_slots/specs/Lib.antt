@@ -2,3 +2,4 @@ pub mod Indexed
 pub mod Steps
 pub mod ItemCells
 pub mod Branches
+pub mod ReadAs

@@ -1,18 +1,20 @@
 //! Expressions without a call, and terms whose slots a head fills.
 ghost use Rattle.std.specs.Prelude.{◌≡◌};
-ghost use Rattle.pi_syntax.specs.ExpTree.{exp_tree};
+ghost use Rattle.pi_syntax.specs.ExpTree.{exp_tree, call};
 ghost use Rattle.pi_syntax.specs.ExpLists.{exps_of};
-ghost use Rattle.pi_rewrite_spec.specs.Values.{is_flat as is_flat_tree, are_flat as are_flat_trees, is_below as is_below_tree};
+ghost use Rattle.pi_rewrite_spec.specs.Values.{is_flat_as as is_flat_tree, are_flat_as as are_flat_trees, is_below as is_below_tree};
+ghost use Rattle.pi_rewrite_slots.specs.ReadAs.{reading_of, readings_of};
 ghost use Rattle.pi_rewrite_slots.specs.ItemCells.{is_cell_below};
 
+use crate::readings::{Reading, Readings};
 use pi_syntax::Exp;
 use pi_terms::{Term, TermHead};
 
-/// Whether no call stands in the expression, so that its value is the term as it stands.
+/// Whether no call stands in the expression where it is read so, so that its value is the term as it stands.
 #[cycle(flatness)]
-#[tactic(auto, unfolding(pi_syntax::specs::ExpTree::exp_tree, pi_rewrite_spec::specs::Values::is_flat))]
-pub fn is_flat(exp: &Exp) -> bool
-    ensures { result ≡ is_flat_tree (exp_tree exp.now) }
+#[tactic(auto, unfolding(pi_syntax::specs::ExpTree::exp_tree, pi_rewrite_spec::specs::Values::is_flat_as))]
+pub fn is_flat(reading: Reading, exp: &Exp) -> bool
+    ensures { result ≡ is_flat_tree (reading_of reading) (exp_tree exp.now) }
 {
     match exp {
         Exp::Var(_) => true,
@@ -20,22 +22,47 @@ pub fn is_flat(exp: &Exp) -> bool
         Exp::Atom(_) => true,
         Exp::Str(_) => true,
         Exp::List(items, tail) => match tail {
-            Some(tail) => are_flat(items.as_slice()) & is_flat(tail),
-            None => are_flat(items.as_slice()),
+            Some(tail) => {
+                are_flat(Readings::Plain, items.as_slice()) & is_flat(Reading::Plain, tail)
+            }
+            None => are_flat(Readings::Plain, items.as_slice()),
         },
-        Exp::Array(items) => are_flat(items.as_slice()),
+        Exp::Array(items) => are_flat(Readings::Plain, items.as_slice()),
+        Exp::Call(name, args) => is_flat_call(reading, name.as_str(), args.as_slice()),
         Exp::Quote(_) => true,
+        Exp::Range(first, step, last) => match step {
+            Some(step) => {
+                reading.is_ranged()
+                    & (is_flat(Reading::Plain, first)
+                        & (is_flat(Reading::Plain, step) & is_flat(Reading::Plain, last)))
+            }
+            None => {
+                reading.is_ranged()
+                    & (is_flat(Reading::Plain, first) & is_flat(Reading::Plain, last))
+            }
+        },
         _ => false,
     }
 }
 
-/// Whether no call stands in any of the expressions.
+/// Whether a call stays as a structure, in which no other call stands.
 #[cycle(flatness)]
-pub fn are_flat(exps: &[Exp]) -> bool
-    ensures { result ≡ are_flat_trees (exps_of exps.now) }
+fn is_flat_call(reading: Reading, name: &str, args: &[Exp]) -> bool
+    ensures { result ≡ is_flat_tree (reading_of reading) (call name.now (exps_of args.now)) }
 {
-    for exp in exps {
-        if !is_flat(exp) {
+    if !reading.stays(name, args.len()) {
+        return false;
+    }
+    are_flat(reading.of_parts(name, args.len()), args)
+}
+
+/// Whether no call stands in any of the expressions, which are read so.
+#[cycle(flatness)]
+pub fn are_flat(readings: Readings, exps: &[Exp]) -> bool
+    ensures { result ≡ are_flat_trees (readings_of readings) (exps_of exps.now) }
+{
+    for (i, exp) in exps.iter().enumerate() {
+        if !is_flat(readings.at(i), exp) {
             return false;
         }
     }

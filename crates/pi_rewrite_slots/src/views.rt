@@ -52,7 +52,7 @@ pub(crate) fn push_unnamed(names: &mut Vec<&str>, count: usize) -> Result<(), Al
 }
 
 /// Whether a name is one of some.
-fn is_one_of(names: &[&str], name: &str) -> bool
+pub(crate) fn is_one_of(names: &[&str], name: &str) -> bool
     ensures { result ≡ is_among (names_in names.now) name.now }
 {
     place_of(names, name).is_some()

@@ -1,5 +1,5 @@
 -- Calls that are built, and known, are of the forms that are lowered.
-use Rattle.std.proofs.Common.{◌≡◌, inl, inr, ℕ, suc, Bool, true, false, cond, List, refl, sym, subst, arith}
+use Rattle.std.proofs.Common.{◌≡◌, inl, inr, ℕ, suc, Bool, true, false, cond, List, [], refl, sym, subst, arith}
 use Rattle.std.specs.Prelude.{◌==◌, ◌&&◌, ◌||◌, Option, Some, None, IsTrue, codes, ⊤}
 use Rattle.std.specs.Str.{bytes_eq}
 use Rattle.std.proofs.lemmas.Bool.{and_parts, or_cases, eqb-true}
@@ -9,7 +9,7 @@ use Rattle.pi_meaning.specs.Shared.Names.{is_catch, is_call, is_later_predicate,
 use Rattle.pi_syntax.specs.ExpTree.{ExpTree, var, ExpTrees, no_exps, exp}
 use Rattle.pi_syntax.specs.Signature.{exp_count}
 use Rattle.pi_meaning.specs.OverNames.Texts.{iterated}
-use Rattle.pi_meaning.specs.OverNames.Forms.{Form, negation, once, assignment, catch, by_term, membership, form_of, is_find_all, is_count_all}
+use Rattle.pi_meaning.specs.OverNames.Forms.{Reading, readings, Form, negation, once, assignment, catch, by_term, membership, form_of, is_find_all, is_count_all}
 use Rattle.pi_meaning.proofs.Shared.TableLemmas.{same-name}
 use Rattle.pi_prog_clauses.specs.Calls.{Named, named, goal_calls, is_known}
 use Rattle.pi_prog_clauses.specs.Operators.{is_goal_sign, is_membership, is_reified}
@@ -160,17 +160,17 @@ form-tested : (name : List ℕ) (k : ℕ) → IsTested (form_of name k) (k == 1 
 unfolding form_of
 form-tested name k = tested (k == 1 && bytes_eq name (codes "not")) (k == 1 && bytes_eq name (codes "once")) (k == 2 && bytes_eq name (codes ":=")) (is_catch name k) (is_call name k) (k == 2 && bytes_eq name (codes "in"))
 
-pub predicate-of : (defined : List Named) (known : Knows) → Has defined known → (name : List ℕ) (k : ℕ) (exps : Bool) (value goal : ℕ → Bool) (Exps : Type 0) (Value Goal : ℕ → Type 0) →
-    Arguments name k exps value goal Exps Value Goal → AreKnown defined (goal_calls name k) → is_built_form (form_of name k) name k exps value goal ≡ true →
-    IsPredicateCall known (form_of name k) name k Exps Value Goal
+pub predicate-of : (defined : List Named) (known : Knows) → Has defined known → (name : List ℕ) (k : ℕ) (exps : Bool) (value goal : ℕ → Bool) (Exps : List Reading → Type 0) (Value Goal : ℕ → Type 0) →
+    Arguments name k exps value goal (Exps []) Value Goal → AreKnown defined (goal_calls name k) → is_built_form (form_of name k) name k exps value goal ≡ true →
+    IsPredicateCall known (form_of name k) name k (Exps (readings name k)) Value Goal
 predicate-of defined known has name k exps value goal Exps Value Goal arguments calls built = go (form_of name k) (form-tested name k) built
   where
     go : (form : Option Form) → IsTested form (k == 1 && bytes_eq name (codes "not")) (k == 1 && bytes_eq name (codes "once")) (k == 2 && bytes_eq name (codes ":=")) (is_catch name k) (is_call name k) → is_built_form form name k exps value goal ≡ true →
-        IsPredicateCall known form name k Exps Value Goal
+        IsPredicateCall known form name k (Exps (readings name k)) Value Goal
     go None is h =
         let both = and_parts exps (is_built_predicate name k) h in
         let plain = built-plain name k both.1 in
-        (arguments.all plain.0 both.0, plain.1, predicate-there defined known has name k both.1 calls)
+        (subst Exps (sym plain.1) (arguments.all plain.0 both.0), predicate-there defined known has name k both.1 calls)
     go (Some Form.negation) is h = arguments.inner 0 (negation-place name k is) h
     go (Some Form.once) is h = arguments.inner 0 (once-place name k is) h
     go (Some Form.assignment) is h = arguments.one 1 (assigned-place name k is) h
@@ -179,7 +179,7 @@ predicate-of defined known has name k exps value goal Exps Value Goal arguments 
         let rest = and_parts (value 1) (goal 2) both.1 in
         let places = catch-places name k is in
         (arguments.inner 0 places.0.0 both.0, arguments.one 1 places.0.1 rest.0, arguments.inner 2 places.1 rest.1)
-    go (Some Form.by_term) is h = let plain = term-plain name k is in (arguments.all plain.0 h, plain.1)
+    go (Some Form.by_term) is h = let plain = term-plain name k is in subst Exps (sym plain.1) (arguments.all plain.0 h)
     go (Some Form.membership) is h = absurd cc
 
 -- ---- assignments

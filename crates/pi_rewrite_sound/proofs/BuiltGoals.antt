@@ -9,7 +9,7 @@ use Rattle.pi_meaning.specs.OverNames.Forms.{form_of}
 use Rattle.pi_prog_clauses.specs.Calls.{Named, calls_of_goal}
 use Rattle.pi_prog_clauses.specs.Places.{goal, asked, expression, iterator, placed, called, below, all_placed, arguments_placed, branches_placed}
 use Rattle.pi_rewrite_sound.specs.Built.{are_some, is_built_value, are_built_values, is_built_value_at, is_built_goal_at, is_built_goal, are_built_goals, are_built_branches, is_built_branch, have_built_goals, is_built_pattern, is_built_form, is_assigned, is_built_unit, is_built_collection, are_built_units}
-use Rattle.pi_rewrite_spec.specs.Forms.{Knows, IsUnit, IsExpression, AreExpressions, IsExpressionAt, IsGoalAt, IsGoal, AreGoals, AreBranches, IsBranch, HaveGoals, AreUnits, IsCollection}
+use Rattle.pi_rewrite_spec.specs.Forms.{IsRead, AreRead, Knows, IsUnit, IsExpression, AreExpressions, IsExpressionAt, IsGoalAt, IsGoal, AreGoals, AreBranches, IsBranch, HaveGoals, AreUnits, IsCollection}
 use Rattle.pi_rewrite_sound.proofs.KnownCalls.{AreKnown, AreFine, nodes-apart}
 use Rattle.pi_rewrite_sound.proofs.BuiltTerms.{term-of, pattern-of}
 use Rattle.pi_rewrite_sound.proofs.CallPlaces.{plain-arguments, goal-arguments, iterator-arguments, below-asked, below-iterator, place_behind}
@@ -31,7 +31,7 @@ unit-by None over test Over Test built f g = g built
 unit-by (Some e) over test Over Test built f g = let both = and_parts (is_built_pattern e) over built in (pattern-of e both.0, f e refl both.1)
 
 mutual
-  unfolding is_built_value IsExpression below all_placed arguments_placed branches_placed
+  unfolding is_built_value IsRead below all_placed arguments_placed branches_placed
 
   pub value-of : (defined : List Named) (known : Knows) → Has defined known → (e : ExpTree) → is_built_value e ≡ true → AreFine defined (placed expression e) → IsExpression known e
   value-of defined known has (var name) built fine = tt
@@ -107,7 +107,7 @@ mutual
       let k : ℕ = exp_count es in
       let both = and_parts (is_built_form (form_of name k) name k (are_built_values es) (is_built_value_at es) (is_built_goal_at es)) (is_assigned (form_of name k) es) built in
       let here : AreFine defined (arguments_placed expression name k 0 es) = as-expression defined assigns name es fine in (
-        predicate-of defined known has name k (are_built_values es) (is_built_value_at es) (is_built_goal_at es) (AreExpressions known es) (IsExpressionAt known es) (IsGoalAt known es)
+        predicate-of defined known has name k (are_built_values es) (is_built_value_at es) (is_built_goal_at es) (λ rs. AreRead known rs es) (IsExpressionAt known es) (IsGoalAt known es)
             (record {
               all = λ plain all. values-of defined known has es all (subst (AreFine defined) (plain-arguments name k 0 es plain) here);
               one = λ i place is. value-at defined known has name k 0 es i place is here;
@@ -160,7 +160,7 @@ mutual
       let k : ℕ = exp_count es in
       let both = and_parts (is_built_form (form_of name k) name k (are_built_values es) (is_built_value_at es) (is_built_goal_at es)) (is_assigned (form_of name k) es) built in
       let here : AreFine defined (arguments_placed expression name k 0 es) = as-expression defined assigns name es fine in (
-        predicate-of defined known has name k (are_built_values es) (is_built_value_at es) (is_built_goal_at es) (AreExpressions known es) (IsExpressionAt known es) (IsGoalAt known es)
+        predicate-of defined known has name k (are_built_values es) (is_built_value_at es) (is_built_goal_at es) (λ rs. AreRead known rs es) (IsExpressionAt known es) (IsGoalAt known es)
             (record {
               all = λ plain all. values-of defined known has es all (subst (AreFine defined) (plain-arguments name k 0 es plain) here);
               one = λ i place is. value-at defined known has name k 0 es i place is here;

@@ -80,26 +80,3 @@ ranges-built = (refl, refl)
 pub index-built : is_built_function index_name 2 ≡ true
 unfolding is_function has_line reading_functions making_functions integer_functions collection_functions sorting_functions index_functions range_functions naming_functions text_functions
 index-built = refl
-
--- ---- `find_all` and `count_all` are nodes of no operand
-
-apart : (t u : Bool) → (u ≡ true → t ≡ false) → t ≡ true → u ≡ false
-apart true true h is = absurd (let e : true ≡ false = h refl in cc)
-apart true false h is = refl
-apart false u h is = absurd cc
-
--- of this spelling, with so many arguments
-spelled : (P : List ℕ → ℕ → Bool) (name spelling : List ℕ) (k j : ℕ) → (k == j && bytes_eq name spelling) ≡ true → P spelling j ≡ false → P name k ≡ false
-spelled P name spelling k j found h =
-    let parts = and_parts (k == j) (bytes_eq name spelling) found in
-    subst (λ (i : ℕ). P name i ≡ false) (sym (eqb-true k j parts.0)) (subst (λ (n : List ℕ). P n j ≡ false) (sym (same-name name spelling parts.1)) h)
-
-pub node-of_none : (name : List ℕ) (k : ℕ) → (is_operand_node name k || is_sum name k) ≡ true → (is_find_all name k ≡ false) × (is_count_all name k ≡ false)
-node-of_none name k node =
-    let P : List ℕ → ℕ → Bool = λ n j. is_operand_node n j || is_sum n j in
-    (apart (P name k) (is_find_all name k) (λ found. spelled P name (codes "find_all") k 2 found refl) node, apart (P name k) (is_count_all name k) (λ found. spelled P name (codes "count_all") k 1 found refl) node)
-
-pub sign-of_none : (name : List ℕ) (k : ℕ) → (is_connective name k || is_constraint name k) ≡ true → (is_find_all name k ≡ false) × (is_count_all name k ≡ false)
-sign-of_none name k sign =
-    let P : List ℕ → ℕ → Bool = λ n j. is_connective n j || is_constraint n j in
-    (apart (P name k) (is_find_all name k) (λ found. spelled P name (codes "find_all") k 2 found refl) sign, apart (P name k) (is_count_all name k) (λ found. spelled P name (codes "count_all") k 1 found refl) sign)

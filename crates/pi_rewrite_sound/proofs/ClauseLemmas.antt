@@ -14,6 +14,7 @@ use Rattle.pi_meaning.specs.CoreMeaning.Sound.{KeepsSlots, pattern_count}
 use Rattle.pi_meaning.specs.OverNames.Texts.{places, behind}
 use Rattle.pi_meaning.specs.OverNames.Rules.{places_in, names_before}
 use Rattle.pi_meaning.proofs.OverNames.LoopNames.{AreNamed, behind-named}
+use Rattle.pi_meaning.specs.OverNames.Forms.{plain}
 use Rattle.pi_rewrite_spec.specs.Slots.{SlotNames}
 use Rattle.pi_rewrite_spec.specs.Values.{SlotValue, last_value}
 use Rattle.pi_rewrite_spec.specs.Goals.{SlotGoals, in_turn}
@@ -220,5 +221,5 @@ function-good known called n f is free built = record {
         (behind-named (behind (behind [] (places f.head)) (places f.value)) (places_in f.cond) (behind-named (behind [] (places f.head)) (places f.value) (head-named f.head))) is.body run.0
 
     value : GoodValue known (value_helpers (value_site called n f) f.value) (λ ns. last_value f.value ns (made (value_site called n f) f.value ns))
-    value = good-last f.value
-        (value-good known (value_site called n f) f.value (behind-named (names_before f.head f.cond) (places_in f.body) (behind-named (behind [] (places f.head)) (places_in f.cond) (head-named f.head))) is.value run.1)
+    value = good-last plain f.value
+        (value-good known (value_site called n f) plain f.value (behind-named (names_before f.head f.cond) (places_in f.body) (behind-named (behind [] (places f.head)) (places_in f.cond) (head-named f.head))) is.value run.1)

@@ -12,7 +12,7 @@ use Rattle.pi_meaning.specs.OverNames.Control.{Goal, Value, Values, nothing, mad
 use Rattle.pi_meaning.specs.OverNames.Forms.{Form, negation, once, assignment, catch, by_term, membership, form_of, Parts, call_goal, atom_goal, Reading, plain, operand, boolean, ranged, is_operand_node, is_sum, is_connective, is_constraint, is_find_all, is_count_all, call_value, range_value}
 use Rattle.pi_meaning.proofs.OverNames.FormNames.{by_term-named}
 use Rattle.pi_rewrite_sound.specs.Built.{is_built_predicate, is_built_function, is_built_value_call, is_built_form, is_built_atom}
-use Rattle.pi_rewrite_sound.proofs.BuiltNames.{node-of_none, sign-of_none}
+use Rattle.pi_rewrite_spec.proofs.ReadingLemmas.{stays-apart}
 use Rattle.pi_rewrite_sound.proofs.CallLemmas.{CallsAlike, Counted, nothing-counted, called-alike, applied-alike}
 
 -- ---- goals
@@ -80,8 +80,8 @@ module _ (a b : Setting) (h : CallsAlike a b) (name : List ℕ) (k : ℕ) (x y :
   unfolding call_value
   call-value-alike plain built = value-tested (is_find_all name k) (is_count_all name k) built
   call-value-alike ranged built = value-tested (is_find_all name k) (is_count_all name k) built
-  call-value-alike operand built = node-tested (is_operand_node name k || is_sum name k) (is_find_all name k) (is_count_all name k) (node-of_none name k) built
-  call-value-alike boolean built = node-tested (is_connective name k || is_constraint name k) (is_find_all name k) (is_count_all name k) (sign-of_none name k) built
+  call-value-alike operand built = node-tested (is_operand_node name k || is_sum name k) (is_find_all name k) (is_count_all name k) (stays-apart operand name k) built
+  call-value-alike boolean built = node-tested (is_connective name k || is_constraint name k) (is_find_all name k) (is_count_all name k) (stays-apart boolean name k) built
 
 pub range-alike : (a b : Setting) → CallsAlike a b → (r : Reading) (k : ℕ) → is_built_function (codes "..") k ≡ true → (vs ws : Values) → Counted Valued k vs → vs ≡ ws → range_value a r vs ≡ range_value b r ws
 unfolding range_value

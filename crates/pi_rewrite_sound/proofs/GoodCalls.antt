@@ -65,7 +65,7 @@ module _ (known : Knows) (name : List ℕ) (k : ℕ) (are : Type 0) (are_built :
       GoodGoals known (goal_call_helpers form helpers) (λ ns. call_goals name form parts ns)
   good-goal-call None term is built =
       let both : (are_built ≡ true) × (is_built_predicate name k ≡ true) = and_parts are_built (is_built_predicate name k) built in
-      good-called name k (good.all is.0 both.0) good.long (predicate-good known name k is.2 both.1)
+      good-called name k (good.all is.0 both.0) good.long (predicate-good known name k is.1 both.1)
   good-goal-call (Some negation) term is built = good-not (good.goals 0 is built)
   good-goal-call (Some once) term is built = good-once (good.goals 0 is built)
   good-goal-call (Some assignment) term is built = good-assigned parts.variable (good.values 1 is built)
@@ -73,7 +73,7 @@ module _ (known : Knows) (name : List ℕ) (k : ℕ) (are : Type 0) (are_built :
       let first : (goal 0 ≡ true) × ((value 1 && goal 2) ≡ true) = and_parts (goal 0) (value 1 && goal 2) built in
       let rest : (value 1 ≡ true) × (goal 2 ≡ true) = and_parts (value 1) (goal 2) first.1 in
       good-catching (good.values 1 is.1 rest.0) (good.goals 0 is.0 first.0) (good.goals 2 is.2 rest.1)
-  good-goal-call (Some by_term) term is built = good-called name k (good.all is.0 built) good.long (λ may allows. allows.machine name k (or_left (is_call name k) (is_predicate name k) (term refl)))
+  good-goal-call (Some by_term) term is built = good-called name k (good.all is built) good.long (λ may allows. allows.machine name k (or_left (is_call name k) (is_predicate name k) (term refl)))
   good-goal-call (Some membership) term is built = absurd (false≢true built)
 
 pub good-atom : (known : Knows) (name : List ℕ) (is_true is_fail : Bool) → IsAtomGoal known is_true is_fail name → (is_true || (is_fail || is_built_predicate name 0)) ≡ true →

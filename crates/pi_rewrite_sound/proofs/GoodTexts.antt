@@ -1,5 +1,5 @@
 -- Each goal and each expression of a text that is built is lowered to goals that are fine wherever they stand, with good helpers.
-use Rattle.std.proofs.Common.{◌≡◌, ℕ, zero, suc, ◌+◌, true, List, [], ◌∷◌, ◌++◌, length, refl, sym, ◌∙◌, ap, append_assoc}
+use Rattle.std.proofs.Common.{◌≡◌, ℕ, zero, suc, ◌+◌, Bool, true, false, cond, List, [], ◌∷◌, ◌++◌, length, refl, sym, ◌∙◌, ap, subst, append_assoc}
 use Rattle.std.specs.Prelude.{None, codes, ◌&&◌}
 use Rattle.std.specs.Str.{bytes_eq}
 use Rattle.std.proofs.lemmas.Bool.{false≢true, and_parts}
@@ -16,17 +16,17 @@ use Rattle.pi_meaning.proofs.CoreMeaning.MeaningLemmas.{count-of}
 use Rattle.pi_meaning.specs.OverNames.Terms.{items_onto}
 use Rattle.pi_meaning.specs.OverNames.Texts.{places, places_all, places_of_branches, occurring, occurring_all, iterated, begins_with_iterator, variable_first, assigned, kept_names}
 use Rattle.pi_meaning.specs.OverNames.Loops.{hidden}
-use Rattle.pi_meaning.specs.OverNames.Forms.{form_of, is_find_all, is_count_all}
+use Rattle.pi_meaning.specs.OverNames.Forms.{form_of, Reading, plain, readings, first_reading, later_readings, operand_readings, is_find_all, is_count_all}
 use Rattle.pi_meaning.proofs.OverNames.LoopNames.{Within, AreNamed, behind-named, shared-before, assigned-occurs}
 use Rattle.pi_rewrite_spec.specs.Slots.{SlotNames}
-use Rattle.pi_rewrite_spec.specs.Values.{is_flat, are_flat, last_value, value_by}
+use Rattle.pi_rewrite_spec.specs.Values.{stays, is_ranged, is_flat_as, are_flat_as, is_flat, SlotValue, last_value, value_before, value_by, value_of_parts}
 use Rattle.pi_rewrite_spec.specs.Goals as slots
-use Rattle.pi_rewrite_spec.specs.Goals.{SlotGoals, begins_flat, just}
-use Rattle.pi_rewrite_spec.specs.Forms.{Knows, IsExpression, AreExpressions, IsExpressionAt, IsGoalAt, IsGoal, AreGoals, AreBranches, IsBranch, HaveGoals, AreUnits, IsCollection}
+use Rattle.pi_rewrite_spec.specs.Goals.{SlotGoals, begins_flat, just, two_parts, three_parts, range_of_two, range_of_three}
+use Rattle.pi_rewrite_spec.specs.Forms.{IsRead, AreRead, IsNode, Knows, IsExpressionAt, IsGoalAt, IsGoal, AreGoals, AreBranches, IsBranch, HaveGoals, AreUnits, IsCollection}
 use Rattle.pi_rewrite_spec.specs.Sites.{Site, helpers_in, helpers_in_all, helpers_in_branches, behind_site, behind_exp, following_sites, goal_sites, value_sites}
 use Rattle.pi_rewrite_spec.specs.Loops.{Ending, as_it_is, in_order, Loop, while_helper, do_helper}
 use Rattle.pi_rewrite_spec.specs.Comprehensions.{adding}
-use Rattle.pi_rewrite_spec.specs.Written.{while_loop, do_loop, turns_of, Inner, inner_of, gathering, gathered_at, is_range, made, parts, arguments, values_in, goals_in, goal_of, all_of, any_of, arrow_in, branches_of, units}
+use Rattle.pi_rewrite_spec.specs.Written.{made_as, parts_as, arguments_as, while_loop, do_loop, turns_of, Inner, inner_of, gathering, gathered_at, is_range, made, values_in, goals_in, goal_of, all_of, any_of, arrow_in, branches_of, units}
 use Rattle.pi_rewrite_spec.specs.Helpers.{helpers_at, value_helpers, all_helpers, values_helpers, goals_helpers, goal_helpers, conjunct_helpers, branch_helpers, units_helpers, collection_helpers}
 use Rattle.pi_rewrite_laws.proofs.BelowLemmas.{atom-below, items-below}
 use Rattle.pi_rewrite_laws.proofs.FormLemmas.{a-term}
@@ -35,12 +35,13 @@ use Rattle.pi_rewrite_laws.proofs.CollectLemmas.{hidden-named, hidden-within, hi
 use Rattle.pi_rewrite_laws.proofs.HelperLemmas.{AreAmong}
 use Rattle.pi_rewrite_laws.proofs.LoopTexts.{shared-among, kept-before, kept-among}
 use Rattle.pi_rewrite_laws.proofs.UnitLemmas.{within-behind}
-use Rattle.pi_rewrite_sound.specs.Built.{are_some, is_assigned, is_built_form, is_built_value, are_built_values, is_built_value_at, is_built_goal_at, is_built_goal, are_built_goals, are_built_branches, is_built_branch, have_built_goals, is_built_unit, are_built_units, is_built_collection}
+use Rattle.pi_rewrite_spec.proofs.ReadingLemmas.{third-of}
+use Rattle.pi_rewrite_sound.specs.Built.{are_some, is_built_function, is_assigned, is_built_form, is_built_value, are_built_values, is_built_value_at, is_built_goal_at, is_built_goal, are_built_goals, are_built_branches, is_built_branch, have_built_goals, is_built_unit, are_built_units, is_built_collection}
 use Rattle.pi_rewrite_sound.proofs.FineGoals.{fine-truth}
 use Rattle.pi_rewrite_sound.proofs.GivenNames.{ranges-there}
 use Rattle.pi_rewrite_sound.proofs.GoodHelpers.{has-last}
 use Rattle.pi_rewrite_sound.proofs.GoodGoals.{GoodGoals, GoodValue, GoodValues, GoodBranches, good-nothing, good-just, good-joined, good-choosing, good-no-branches, good-as-goals, GoodArrow, no_good_arrow, a_good_arrow, good-branch, good-same}
-use Rattle.pi_rewrite_sound.proofs.GoodValues.{good-none, good-last, good-before, good-by, good-no-values, good-front, pair-good, three-good, good-parts, good-onto, good-table, GoodIndexes, no_indexes, one_index, good-indexed}
+use Rattle.pi_rewrite_sound.proofs.GoodValues.{good-none, good-last, good-before, good-by, good-no-values, good-front, pair-good, three-good, kept-good, kept-three, good-parts, good-onto, good-table, GoodIndexes, no_indexes, one_index, good-indexed}
 use Rattle.pi_rewrite_sound.proofs.GoodCalls.{good-value-call, good-goal-call, good-atom, goal-sites-named, value-sites-named}
 use Rattle.pi_rewrite_sound.proofs.LoopGoals.{good-loop}
 use Rattle.pi_rewrite_sound.proofs.LoopHelpers.{enters-again, good-while, good-do}
@@ -48,7 +49,7 @@ use Rattle.pi_rewrite_sound.proofs.GoodUnits.{GoodCollection, by_value, by_range
 
 -- a branch without an arrow is a goal
 branch-goal : (known : Knows) (s : Site) (e : ExpTree) → IsBranch known e → arrow_in s e ≡ None → IsGoal known e
-unfolding IsBranch made
+unfolding IsBranch made_as
 branch-goal known s (arrow c e) is none = absurd cc
 branch-goal known s (atom name) is none = is
 branch-goal known s (call name es) is none = is
@@ -62,7 +63,7 @@ branch-goal known s (do_while e c) is none = is
 branch-goal known s e is none = absurd is
 
 branch-built : (s : Site) (e : ExpTree) → is_built_branch e ≡ true → arrow_in s e ≡ None → is_built_goal e ≡ true
-unfolding is_built_branch made
+unfolding is_built_branch made_as
 branch-built s (arrow c e) is none = absurd cc
 branch-built s (atom name) is none = is
 branch-built s (call name es) is none = is
@@ -75,83 +76,115 @@ branch-built s (while_do c e) is none = is
 branch-built s (do_while e c) is none = is
 branch-built s e is none = absurd (false≢true is)
 
-counted : (s : Site) (es : ExpTrees) (ns : SlotNames) → length (arguments s es ns).trees ≡ exp_count es
-counted s es ns = sym (count-of (arguments s es ns).trees) ∙ arguments-count s es ns
+counted : (s : Site) (rs : List Reading) (es : ExpTrees) (ns : SlotNames) → length (arguments_as s rs es ns).trees ≡ exp_count es
+counted s rs es ns = sym (count-of (arguments_as s rs es ns).trees) ∙ arguments-count s rs es ns
+
+-- a call, by whether it stays as a structure
+node-good : (known : Knows) (r : Reading) (name : List ℕ) (k : ℕ) (own called : Type 0) (exps : Bool) (found counts : Bool) (ps qs all : List PredTree) (stay : SlotNames → SlotValue) (function : SlotNames → SlotValue) → (own → exps ≡ true → GoodValue known all stay) →
+    (called → cond (is_find_all name k) found (cond (is_count_all name k) counts (exps && is_built_function name k)) ≡ true → GoodValue known (cond (is_find_all name k) ps (cond (is_count_all name k) qs all)) function) → (test : Bool) → stays r name k ≡ test →
+    IsNode test own called → cond (is_find_all name k) found (cond (is_count_all name k) counts (exps && is_built_function name k)) ≡ true →
+    GoodValue known (cond (is_find_all name k) ps (cond (is_count_all name k) qs all)) (λ ns. cond test (stay ns) (function ns))
+node-good known r name k own called exps found counts ps qs all stay function one other true stays is built =
+    subst (λ (hs : List PredTree). GoodValue known hs stay) (sym (third-of r name k stays ps qs all))
+    (one is (and_parts exps (is_built_function name k) (sym (third-of r name k stays found counts (exps && is_built_function name k)) ∙ built)).0)
+node-good known r name k own called exps found counts ps qs all stay function one other false stays is built = other is built
+
+-- a range, by whether it stays as one
+range-good : (known : Knows) (ps : List PredTree) (test : Bool) (stay function : SlotNames → SlotValue) → GoodValue known ps stay → GoodValue known ps function → GoodValue known ps (λ ns. cond test (stay ns) (function ns))
+range-good known ps true stay function one other = one
+range-good known ps false stay function one other = other
 
 -- ---- each of them
 
 mutual
-  unfolding made value_helpers helpers_at is_flat IsExpression is_built_value slots.indexed_by slots.goals_at slots.value_at following_sites exp_count assigned occurring
+  unfolding made_as value_helpers helpers_at is_flat_as IsRead is_built_value slots.indexed_by slots.goals_at slots.value_at following_sites exp_count assigned occurring
 
-  pub value-good : (known : Knows) (s : Site) (e : ExpTree) → AreNamed s.before → IsExpression known e → is_built_value e ≡ true → GoodValue known (value_helpers s e) (λ ns. made s e ns)
-  value-good known s (var name) named is built = good-none
-  value-good known s (int n) named is built = good-none
-  value-good known s (atom name) named is built = good-none
-  value-good known s (str text) named is built = good-none
-  value-good known s (quote e) named is built = good-none
-  value-good known s (list es) named is built = good-parts (λ ts. items_onto ts (Tree.atom nil)) (λ n ts below. items-below n ts (Tree.atom nil) below (atom-below n nil)) (parts-good known s es named is built)
-  value-good known s (list_onto es e) named is built =
+  pub value-good : (known : Knows) (s : Site) (r : Reading) (e : ExpTree) → AreNamed s.before → IsRead known r e → is_built_value e ≡ true → GoodValue known (value_helpers s e) (λ ns. made_as s r e ns)
+  value-good known s r (var name) named is built = good-none
+  value-good known s r (int n) named is built = good-none
+  value-good known s r (atom name) named is built = good-none
+  value-good known s r (str text) named is built = good-none
+  value-good known s r (quote e) named is built = good-none
+  value-good known s r (list es) named is built = good-parts (λ ts. items_onto ts (Tree.atom nil)) (λ n ts below. items-below n ts (Tree.atom nil) below (atom-below n nil)) (parts-good known s [] es named is built)
+  value-good known s r (list_onto es e) named is built =
       let both : (are_built_values es ≡ true) × (is_built_value e ≡ true) = and_parts (are_built_values es) (is_built_value e) built in
-      good-onto (parts-good known s es named is.0 both.0)
-      (good-before s.filled e (value-good known (behind_site s (places_all es) (helpers_in_all es)) e (behind-named s.before (places_all es) named) is.1 both.1))
-  value-good known s (array es) named is built = good-parts (comp array_name) (λ n ts below. comp-below n array_name ts below) (parts-good known s es named is built)
-  value-good known s (call name es) named is built =
-      let at : ℕ → Site = value_sites (is_find_all name (exp_count es)) s es in
-      let there : (i : ℕ) → AreNamed (at i).before = value-sites-named (is_find_all name (exp_count es)) s es named in
-      good-value-call known name (exp_count es) (AreExpressions known es) (are_built_values es) (IsExpressionAt known es) (IsGoalAt known es) (is_built_value_at es) (is_built_goal_at es)
+      good-onto (parts-good known s [] es named is.0 both.0)
+      (good-before plain s.filled e (value-good known (behind_site s (places_all es) (helpers_in_all es)) plain e (behind-named s.before (places_all es) named) is.1 both.1))
+  value-good known s r (array es) named is built = good-parts (comp array_name) (λ n ts below. comp-below n array_name ts below) (parts-good known s [] es named is built)
+  value-good known s r (call name es) named is built =
+      let k : ℕ = exp_count es in
+      let at : ℕ → Site = value_sites (is_find_all name k) s es in
+      let there : (i : ℕ) → AreNamed (at i).before = value-sites-named (is_find_all name k) s es named in
+      node-good known r name k _ _ (are_built_values es) (is_built_value_at es 0 && is_built_goal_at es 1) (is_built_goal_at es 0) _ _ (all_helpers s es) (λ ns. value_of_parts (comp name) (parts_as s (operand_readings r name k) es ns)) _
+      (λ are fine. good-parts (comp name) (λ n ts below. comp-below n name ts below) (parts-good known s (operand_readings r name k) es named are fine))
+      (λ call fine. good-value-call known name k (AreRead known [] es) (are_built_values es) (IsExpressionAt known es) (IsGoalAt known es) (is_built_value_at es) (is_built_goal_at es)
       (record { goals = goals_helpers at es; values = values_helpers at es; all = all_helpers s es })
-      (record { variable = variable_first es; goals = goals_in at es; values = values_in at es; all = λ ns. arguments s es ns })
+      (record { variable = variable_first es; goals = goals_in at es; values = values_in at es; all = λ ns. arguments_as s [] es ns })
       (record {
         goals = λ i fits fine. goal-at-good known at es i there fits fine;
         values = λ i fits fine. value-at-good known at es i there fits fine;
-        all = λ are fine. arguments-good known s es named are fine;
-        long = counted s es;
-      }) (is_find_all name (exp_count es)) (is_count_all name (exp_count es)) is built
-  value-good known s (index e es) named is built =
+        all = λ are fine. arguments-good known s [] es named are fine;
+        long = counted s [] es;
+      }) (is_find_all name k) (is_count_all name k) call fine) (stays r name k) refl is built
+  value-good known s r (index e es) named is built =
       let both : (is_built_value e ≡ true) × ((are_built_values es && are_some es) ≡ true) = and_parts (is_built_value e) (are_built_values es && are_some es) built in
       good-indexed (indexes-good known (behind_exp s e) es (behind-named s.before (places e) named) is.1 (and_parts (are_built_values es) (are_some es) both.1).0) (λ ns. value_by (begins_flat es) s.filled e ns (made s e ns))
-      (good-by (begins_flat es) s.filled e (value-good known s e named is.0 both.0))
-  value-good known s (range first last) named is built =
+      (good-by plain (begins_flat es) s.filled e (value-good known s plain e named is.0 both.0))
+  value-good known s r (range first last) named is built =
       let both : (is_built_value first ≡ true) × (is_built_value last ≡ true) = and_parts (is_built_value first) (is_built_value last) built in
-      good-table (codes "..") 2 (pair-good s.filled first last (is_flat last) (value-good known s first named is.0 both.0) (value-good known (behind_exp s first) last (behind-named s.before (places first) named) is.1 both.1)) (λ ns. refl) ranges-there.0
-  value-good known s (range_by first step last) named is built =
+      let one : GoodValue known (value_helpers s first) (λ ns. made s first ns) = value-good known s plain first named is.0 both.0 in
+      let two : GoodValue known (value_helpers (behind_exp s first) last) (λ ns. made (behind_exp s first) last ns) = value-good known (behind_exp s first) plain last (behind-named s.before (places first) named) is.1 both.1 in
+      range-good known (value_helpers s first ++ value_helpers (behind_exp s first) last) (is_ranged r)
+      (λ ns. value_of_parts (comp (codes "..")) (two_parts (value_before s.filled first ns (made s first ns)) (λ ms. value_before s.filled last ms (made (behind_exp s first) last ms))))
+      (λ ns. range_of_two (value_by (is_flat last) s.filled first ns (made s first ns)) (λ ms. last_value last ms (made (behind_exp s first) last ms)))
+      (good-parts (comp (codes "..")) (λ n ts below. comp-below n (codes "..") ts below) (kept-good s.filled first last one two)) (good-table (codes "..") 2 (pair-good s.filled first last (is_flat last) one two) (λ ns. refl) ranges-there.0)
+  value-good known s r (range_by first step last) named is built =
       let three : (is_built_value first ≡ true) × ((is_built_value step && is_built_value last) ≡ true) = and_parts (is_built_value first) (is_built_value step && is_built_value last) built in
       let both : (is_built_value step ≡ true) × (is_built_value last ≡ true) = and_parts (is_built_value step) (is_built_value last) three.1 in
-      good-table (codes "..") 3 (three-good s.filled first step last (is_flat step && is_flat last) (is_flat last) (value-good known s first named is.0 three.0) (value-good known (behind_exp s first) step (behind-named s.before (places first) named) is.1 both.0)
-      (value-good known (behind_site s (places first ++ places step) (helpers_in first + helpers_in step)) last (behind-named s.before (places first ++ places step) named) is.2 both.1)) (λ ns. refl) ranges-there.1
-  value-good known s (collect is_array e es) named is built =
+      let t : Site = behind_exp s first in
+      let u : Site = behind_site s (places first ++ places step) (helpers_in first + helpers_in step) in
+      let one : GoodValue known (value_helpers s first) (λ ns. made s first ns) = value-good known s plain first named is.0 three.0 in
+      let two : GoodValue known (value_helpers t step) (λ ns. made t step ns) = value-good known t plain step (behind-named s.before (places first) named) is.1 both.0 in
+      let last-is : GoodValue known (value_helpers u last) (λ ns. made u last ns) = value-good known u plain last (behind-named s.before (places first ++ places step) named) is.2 both.1 in
+      range-good known (value_helpers s first ++ (value_helpers t step ++ value_helpers u last)) (is_ranged r)
+      (λ ns. value_of_parts (comp (codes "..")) (three_parts (value_before s.filled first ns (made s first ns)) (λ ms. value_before s.filled step ms (made t step ms)) (λ ms. value_before s.filled last ms (made u last ms))))
+      (λ ns. range_of_three (value_by (is_flat step && is_flat last) s.filled first ns (made s first ns)) (λ ms. value_by (is_flat last) s.filled step ms (made t step ms)) (λ ms. last_value last ms (made u last ms)))
+      (good-parts (comp (codes "..")) (λ n ts below. comp-below n (codes "..") ts below) (kept-three s.filled first step last one two last-is))
+      (good-table (codes "..") 3 (three-good s.filled first step last (is_flat step && is_flat last) (is_flat last) one two last-is) (λ ns. refl) ranges-there.1)
+  value-good known s r (collect is_array e es) named is built =
       let both : (are_built_units es ≡ true) × (is_built_value e ≡ true) = and_parts (are_built_units es) (is_built_value e) built in
       let t : Site = gathered_at s in
       let body : Site → SlotNames → SlotGoals = λ u ms. adding (last_value e ms (made u e ms)) in
       good-comprehension s.filled s.before
       (started-good known t (in_order is_array) (hidden ∷ []) (gathering e) es body (λ u ending. units_helpers u ending (gathering e) es body (λ v. value_helpers v e)) (hidden-named s.before named) (hidden-stands s.before)
       (hidden-shared s.before (occurring_all es) (occurring e))
-      (λ u ending there. units-good known u ending (gathering e) es there is.0 both.0 (hidden-within (occurring e)) body (λ v. value_helpers v e) (λ v at. good-adding (good-last e (value-good known v e at is.1 both.1)))) (begins_with_iterator es))
-  value-good known s e named is built = absurd is
+      (λ u ending there. units-good known u ending (gathering e) es there is.0 both.0 (hidden-within (occurring e)) body (λ v. value_helpers v e) (λ v at. good-adding (good-last plain e (value-good known v plain e at is.1 both.1)))) (begins_with_iterator es))
+  value-good known s r e named is built = absurd is
 
-  parts-good : (known : Knows) (s : Site) (es : ExpTrees) → AreNamed s.before → AreExpressions known es → are_built_values es ≡ true → GoodValues known (all_helpers s es) (λ ns. parts s es ns)
-  parts-good known s no_exps named is built = good-no-values
-  parts-good known s (exp e es) named is built =
+  parts-good : (known : Knows) (s : Site) (rs : List Reading) (es : ExpTrees) → AreNamed s.before → AreRead known rs es → are_built_values es ≡ true → GoodValues known (all_helpers s es) (λ ns. parts_as s rs es ns)
+  parts-good known s rs no_exps named is built = good-no-values
+  parts-good known s rs (exp e es) named is built =
       let both : (is_built_value e ≡ true) × (are_built_values es ≡ true) = and_parts (is_built_value e) (are_built_values es) built in
-      good-front (good-before s.filled e (value-good known s e named is.0 both.0)) (parts-good known (behind_exp s e) es (behind-named s.before (places e) named) is.1 both.1)
+      good-front (good-before (first_reading rs) s.filled e (value-good known s (first_reading rs) e named is.0 both.0)) (parts-good known (behind_exp s e) (later_readings rs) es (behind-named s.before (places e) named) is.1 both.1)
 
-  arguments-good : (known : Knows) (s : Site) (es : ExpTrees) → AreNamed s.before → AreExpressions known es → are_built_values es ≡ true → GoodValues known (all_helpers s es) (λ ns. arguments s es ns)
-  arguments-good known s no_exps named is built = good-no-values
-  arguments-good known s (exp e es) named is built =
+  arguments-good : (known : Knows) (s : Site) (rs : List Reading) (es : ExpTrees) → AreNamed s.before → AreRead known rs es → are_built_values es ≡ true → GoodValues known (all_helpers s es) (λ ns. arguments_as s rs es ns)
+  arguments-good known s rs no_exps named is built = good-no-values
+  arguments-good known s rs (exp e es) named is built =
       let both : (is_built_value e ≡ true) × (are_built_values es ≡ true) = and_parts (is_built_value e) (are_built_values es) built in
-      good-front (good-by (are_flat es) s.filled e (value-good known s e named is.0 both.0)) (arguments-good known (behind_exp s e) es (behind-named s.before (places e) named) is.1 both.1)
+      good-front (good-by (first_reading rs) (are_flat_as (later_readings rs) es) s.filled e (value-good known s (first_reading rs) e named is.0 both.0))
+      (arguments-good known (behind_exp s e) (later_readings rs) es (behind-named s.before (places e) named) is.1 both.1)
 
-  indexes-good : (known : Knows) (s : Site) (es : ExpTrees) → AreNamed s.before → AreExpressions known es → are_built_values es ≡ true → GoodIndexes known (all_helpers s es) (values_in (following_sites s es) es)
+  indexes-good : (known : Knows) (s : Site) (es : ExpTrees) → AreNamed s.before → AreRead known [] es → are_built_values es ≡ true → GoodIndexes known (all_helpers s es) (values_in (following_sites s es) es)
   indexes-good known s no_exps named is built = no_indexes
   indexes-good known s (exp e es) named is built =
       let both : (is_built_value e ≡ true) × (are_built_values es ≡ true) = and_parts (is_built_value e) (are_built_values es) built in
-      one_index (value_helpers s e) (all_helpers (behind_exp s e) es) (λ ns. last_value e ns (made s e ns)) (values_in (following_sites (behind_exp s e) es) es) (good-last e (value-good known s e named is.0 both.0))
+      one_index (value_helpers s e) (all_helpers (behind_exp s e) es) (λ ns. last_value e ns (made s e ns)) (values_in (following_sites (behind_exp s e) es) es) (good-last plain e (value-good known s plain e named is.0 both.0))
       (indexes-good known (behind_exp s e) es (behind-named s.before (places e) named) is.1 both.1)
 
   value-at-good : (known : Knows) (sites : ℕ → Site) (es : ExpTrees) (i : ℕ) → ((j : ℕ) → AreNamed (sites j).before) → IsExpressionAt known es i → is_built_value_at es i ≡ true →
       GoodValue known (helpers_at (values_helpers sites es) i) (slots.value_at (values_in sites es) i)
   value-at-good known sites no_exps i named is built = absurd is
-  value-at-good known sites (exp e es) zero named is built = good-last e (value-good known (sites 0) e (named 0) is built)
+  value-at-good known sites (exp e es) zero named is built = good-last plain e (value-good known (sites 0) plain e (named 0) is built)
   value-at-good known sites (exp e es) (suc i) named is built = value-at-good known (λ j. sites (suc j)) es i (λ j. named (suc j)) is built
 
   goal-at-good : (known : Knows) (sites : ℕ → Site) (es : ExpTrees) (i : ℕ) → ((j : ℕ) → AreNamed (sites j).before) → IsGoalAt known es i → is_built_goal_at es i ≡ true → GoodGoals known (helpers_at (goals_helpers sites es) i) (slots.goals_at (goals_in sites es) i)
@@ -164,14 +197,14 @@ mutual
   goal-good known s (call name es) named is built =
       let at : ℕ → Site = goal_sites (form_of name (exp_count es)) s es in
       let there : (i : ℕ) → AreNamed (at i).before = goal-sites-named (form_of name (exp_count es)) s es named in
-      good-goal-call known name (exp_count es) (AreExpressions known es) (are_built_values es) (IsExpressionAt known es) (IsGoalAt known es) (is_built_value_at es) (is_built_goal_at es)
+      good-goal-call known name (exp_count es) (AreRead known (readings name (exp_count es)) es) (are_built_values es) (IsExpressionAt known es) (IsGoalAt known es) (is_built_value_at es) (is_built_goal_at es)
       (record { goals = goals_helpers at es; values = values_helpers at es; all = all_helpers s es })
-      (record { variable = variable_first es; goals = goals_in at es; values = values_in at es; all = λ ns. arguments s es ns })
+      (record { variable = variable_first es; goals = goals_in at es; values = values_in at es; all = λ ns. arguments_as s (readings name (exp_count es)) es ns })
       (record {
         goals = λ i fits fine. goal-at-good known at es i there fits fine;
         values = λ i fits fine. value-at-good known at es i there fits fine;
-        all = λ are fine. arguments-good known s es named are fine;
-        long = counted s es;
+        all = λ are fine. arguments-good known s (readings name (exp_count es)) es named are fine;
+        long = counted s (readings name (exp_count es)) es;
       }) (form_of name (exp_count es)) (a-term name (exp_count es)) is.0
       (and_parts (is_built_form (form_of name (exp_count es)) name (exp_count es) (are_built_values es) (is_built_value_at es) (is_built_goal_at es)) (is_assigned (form_of name (exp_count es)) es) built).0
   goal-good known s (and es) named is built = all-good known s es named is built
@@ -265,22 +298,22 @@ mutual
   collection-good known s (call name no_exps) named is built = absurd is
   collection-good known s (call name (exp x no_exps)) named is built = absurd is
   collection-good known s (call name (exp x (exp (range first last) es))) named is built =
-      let both : (is_built_value first ≡ true) × (is_built_value last ≡ true) = and_parts (is_built_value first) (is_built_value last) built in by_range (pair-good s.filled first last (is_flat last) (value-good known s first named is.0 both.0) (value-good known (behind_exp s first) last (behind-named s.before (places first) named) is.1 both.1))
+      let both : (is_built_value first ≡ true) × (is_built_value last ≡ true) = and_parts (is_built_value first) (is_built_value last) built in by_range (pair-good s.filled first last (is_flat last) (value-good known s plain first named is.0 both.0) (value-good known (behind_exp s first) plain last (behind-named s.before (places first) named) is.1 both.1))
   collection-good known s (call name (exp x (exp (range_by first step last) es))) named is built =
       let three : (is_built_value first ≡ true) × ((is_built_value step && is_built_value last) ≡ true) = and_parts (is_built_value first) (is_built_value step && is_built_value last) built in
       let both : (is_built_value step ≡ true) × (is_built_value last ≡ true) = and_parts (is_built_value step) (is_built_value last) three.1 in
-      by_range (three-good s.filled first step last (is_flat step && is_flat last) (is_flat last) (value-good known s first named is.0 three.0) (value-good known (behind_exp s first) step (behind-named s.before (places first) named) is.1 both.0)
-      (value-good known (behind_site s (places first ++ places step) (helpers_in first + helpers_in step)) last (behind-named s.before (places first ++ places step) named) is.2 both.1))
-  collection-good known s (call name (exp x (exp (var y) es))) named is built = by_value (good-last (var y) (value-good known s (var y) named is built))
-  collection-good known s (call name (exp x (exp (int n) es))) named is built = by_value (good-last (int n) (value-good known s (int n) named is built))
-  collection-good known s (call name (exp x (exp (atom y) es))) named is built = by_value (good-last (atom y) (value-good known s (atom y) named is built))
-  collection-good known s (call name (exp x (exp (str y) es))) named is built = by_value (good-last (str y) (value-good known s (str y) named is built))
-  collection-good known s (call name (exp x (exp (list ys) es))) named is built = by_value (good-last (list ys) (value-good known s (list ys) named is built))
-  collection-good known s (call name (exp x (exp (list_onto ys y) es))) named is built = by_value (good-last (list_onto ys y) (value-good known s (list_onto ys y) named is built))
-  collection-good known s (call name (exp x (exp (array ys) es))) named is built = by_value (good-last (array ys) (value-good known s (array ys) named is built))
-  collection-good known s (call name (exp x (exp (call f ys) es))) named is built = by_value (good-last (call f ys) (value-good known s (call f ys) named is built))
-  collection-good known s (call name (exp x (exp (quote y) es))) named is built = by_value (good-last (quote y) (value-good known s (quote y) named is built))
-  collection-good known s (call name (exp x (exp (index y ys) es))) named is built = by_value (good-last (index y ys) (value-good known s (index y ys) named is built))
-  collection-good known s (call name (exp x (exp (collect is_array y ys) es))) named is built = by_value (good-last (collect is_array y ys) (value-good known s (collect is_array y ys) named is built))
+      by_range (three-good s.filled first step last (is_flat step && is_flat last) (is_flat last) (value-good known s plain first named is.0 three.0) (value-good known (behind_exp s first) plain step (behind-named s.before (places first) named) is.1 both.0)
+      (value-good known (behind_site s (places first ++ places step) (helpers_in first + helpers_in step)) plain last (behind-named s.before (places first ++ places step) named) is.2 both.1))
+  collection-good known s (call name (exp x (exp (var y) es))) named is built = by_value (good-last plain (var y) (value-good known s plain (var y) named is built))
+  collection-good known s (call name (exp x (exp (int n) es))) named is built = by_value (good-last plain (int n) (value-good known s plain (int n) named is built))
+  collection-good known s (call name (exp x (exp (atom y) es))) named is built = by_value (good-last plain (atom y) (value-good known s plain (atom y) named is built))
+  collection-good known s (call name (exp x (exp (str y) es))) named is built = by_value (good-last plain (str y) (value-good known s plain (str y) named is built))
+  collection-good known s (call name (exp x (exp (list ys) es))) named is built = by_value (good-last plain (list ys) (value-good known s plain (list ys) named is built))
+  collection-good known s (call name (exp x (exp (list_onto ys y) es))) named is built = by_value (good-last plain (list_onto ys y) (value-good known s plain (list_onto ys y) named is built))
+  collection-good known s (call name (exp x (exp (array ys) es))) named is built = by_value (good-last plain (array ys) (value-good known s plain (array ys) named is built))
+  collection-good known s (call name (exp x (exp (call f ys) es))) named is built = by_value (good-last plain (call f ys) (value-good known s plain (call f ys) named is built))
+  collection-good known s (call name (exp x (exp (quote y) es))) named is built = by_value (good-last plain (quote y) (value-good known s plain (quote y) named is built))
+  collection-good known s (call name (exp x (exp (index y ys) es))) named is built = by_value (good-last plain (index y ys) (value-good known s plain (index y ys) named is built))
+  collection-good known s (call name (exp x (exp (collect is_array y ys) es))) named is built = by_value (good-last plain (collect is_array y ys) (value-good known s plain (collect is_array y ys) named is built))
   collection-good known s (call name (exp x (exp d es))) named is built = absurd is
   collection-good known s u named is built = absurd is

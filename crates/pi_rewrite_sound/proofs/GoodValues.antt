@@ -13,8 +13,9 @@ use Rattle.pi_core.specs.GoalTree.{GoalTree, truth, fail, call, apply, collect, 
 use Rattle.pi_core.specs.CoreTree.{PredTree}
 use Rattle.pi_rewrite_spec.specs.Forms.{Knows}
 use Rattle.pi_rewrite_spec.specs.Slots.{SlotNames, unnamed, slot_for, with_value}
-use Rattle.pi_rewrite_spec.specs.Values.{SlotValue, SlotValues, slot_term, is_flat, as_it_stands, is_below, evaluating, filling, filled_before, last_value, value_before, value_by, no_values, before_values, value_of_parts, value_onto, applied, Slotted, slotted}
-use Rattle.pi_rewrite_spec.specs.Goals.{SlotGoals, in_turn, no_value, called, assigned, found_by, all_counted, indexed, indexed_by}
+use Rattle.pi_meaning.specs.OverNames.Forms.{Reading, plain}
+use Rattle.pi_rewrite_spec.specs.Values.{SlotValue, SlotValues, slot_term, is_flat_as, as_it_stands, is_below, evaluating, filling, filled_before, last_value_as, value_before_as, value_before, value_by_as, no_values, before_values, value_of_parts, value_onto, applied, Slotted, slotted}
+use Rattle.pi_rewrite_spec.specs.Goals.{SlotGoals, in_turn, no_value, called, assigned, found_by, all_counted, indexed, indexed_by, two_parts, three_parts}
 use Rattle.pi_rewrite_spec.specs.Written.{pair_values, three_values, ahead}
 use Rattle.pi_rewrite_spec.proofs.AgreeLemmas.{grows-length, grows-for}
 use Rattle.pi_rewrite_spec.proofs.TermLemmas.{name-room, term-grows}
@@ -61,23 +62,23 @@ flat-fine good e = record { longer = term-longer e; fine = λ may allows has n n
 filled-fine : {known : Knows} {ps : List PredTree} → GoodHelpers known ps → (h : ℕ) (e : ExpTree) → GoodValue known ps (λ ns. filled_before h (length ns) (slot_term e ns))
 filled-fine {known} good h e = record { longer = term-longer e; fine = λ may allows has n ns room. fine-filled n known may allows h e ns room; below = λ n ns room. term-below e ns n room; helpers = good }
 
-pub good-last : {known : Knows} {ps : List PredTree} {f : SlotNames → SlotValue} (e : ExpTree) → GoodValue known ps f → GoodValue known ps (λ ns. last_value e ns (f ns))
-good-last {known} {ps} {f} e is = go (is_flat e)
+pub good-last : {known : Knows} {ps : List PredTree} {f : SlotNames → SlotValue} (r : Reading) (e : ExpTree) → GoodValue known ps f → GoodValue known ps (λ ns. last_value_as r e ns (f ns))
+good-last {known} {ps} {f} r e is = go (is_flat_as r e)
   where
     go : (test : Bool) → GoodValue known ps (λ ns. cond test (as_it_stands (slot_term e ns)) (f ns))
     go true = flat-fine is.helpers e
     go false = is
 
-pub good-before : {known : Knows} {ps : List PredTree} {f : SlotNames → SlotValue} (h : ℕ) (e : ExpTree) → GoodValue known ps f → GoodValue known ps (λ ns. value_before h e ns (f ns))
-good-before {known} {ps} {f} h e is = go (is_flat e)
+pub good-before : {known : Knows} {ps : List PredTree} {f : SlotNames → SlotValue} (r : Reading) (h : ℕ) (e : ExpTree) → GoodValue known ps f → GoodValue known ps (λ ns. value_before_as r h e ns (f ns))
+good-before {known} {ps} {f} r h e is = go (is_flat_as r e)
   where
     go : (test : Bool) → GoodValue known ps (λ ns. cond test (filled_before h (length ns) (slot_term e ns)) (f ns))
     go true = filled-fine is.helpers h e
     go false = is
 
-pub good-by : {known : Knows} {ps : List PredTree} {f : SlotNames → SlotValue} (test : Bool) (h : ℕ) (e : ExpTree) → GoodValue known ps f → GoodValue known ps (λ ns. value_by test h e ns (f ns))
-good-by true h e is = good-last e is
-good-by false h e is = good-before h e is
+pub good-by : {known : Knows} {ps : List PredTree} {f : SlotNames → SlotValue} (r : Reading) (test : Bool) (h : ℕ) (e : ExpTree) → GoodValue known ps f → GoodValue known ps (λ ns. value_by_as r test h e ns (f ns))
+good-by r true h e is = good-last r e is
+good-by r false h e is = good-before r h e is
 
 -- ---- parts and arguments
 
@@ -104,11 +105,11 @@ good-alone {known} {ps} {v} is = record {
 
 -- two and three, of which the last is evaluated where they are used
 pub pair-good : {known : Knows} {ps qs : List PredTree} {f g : SlotNames → SlotValue} (h : ℕ) (first last : ExpTree) (test : Bool) → GoodValue known ps f → GoodValue known qs g → GoodValues known (ps ++ qs) (λ ns. pair_values h (ahead first f test) last g ns)
-pair-good h first last test one two = good-front (good-by test h first one) (good-alone (good-last last two))
+pair-good h first last test one two = good-front (good-by plain test h first one) (good-alone (good-last plain last two))
 
 pub three-good : {known : Knows} {ps qs rs : List PredTree} {f g k : SlotNames → SlotValue} (h : ℕ) (first step last : ExpTree) (a c : Bool) → GoodValue known ps f → GoodValue known qs g → GoodValue known rs k →
     GoodValues known (ps ++ (qs ++ rs)) (λ ns. three_values h (ahead first f a) (ahead step g c) last k ns)
-three-good h first step last a c one two three = good-front (good-by a h first one) (pair-good h step last c two three)
+three-good h first step last a c one two three = good-front (good-by plain a h first one) (pair-good h step last c two three)
 
 pub good-parts : {known : Knows} {ps : List PredTree} {vs : SlotNames → SlotValues} (make : Trees → Tree) → ((n : ℕ) (ts : Trees) → TreesBelow n ts → SpeaksBelow n (make ts)) → GoodValues known ps vs → GoodValue known ps (λ ns. value_of_parts make (vs ns))
 good-parts {known} {ps} {vs} make keeps are = record { longer = are.longer; fine = are.fine; below = λ n ns room. keeps n (trees_of (vs ns).trees) (are.below n ns room); helpers = are.helpers }
@@ -121,6 +122,15 @@ good-onto {known} {ps} {qs} {vs} {v} are is = record {
   below = λ n ns room. items-below n (trees_of (vs ns).trees) (v (vs ns).names).tree (are.below n ns (omega (arith, room, is.longer (vs ns).names))) (is.below n (vs ns).names room);
   helpers = both-helpers known ps qs are.helpers is.helpers;
 }
+
+-- of a range that stays, each is evaluated before it is used
+pub kept-good : {known : Knows} {ps qs : List PredTree} {f g : SlotNames → SlotValue} (h : ℕ) (first last : ExpTree) → GoodValue known ps f → GoodValue known qs g →
+    GoodValues known (ps ++ qs) (λ ns. two_parts (value_before h first ns (f ns)) (λ ms. value_before h last ms (g ms)))
+kept-good h first last one two = good-front (good-before plain h first one) (good-alone (good-before plain h last two))
+
+pub kept-three : {known : Knows} {ps qs rs : List PredTree} {f g k : SlotNames → SlotValue} (h : ℕ) (first step last : ExpTree) → GoodValue known ps f → GoodValue known qs g → GoodValue known rs k →
+    GoodValues known (ps ++ (qs ++ rs)) (λ ns. three_parts (value_before h first ns (f ns)) (λ ms. value_before h step ms (g ms)) (λ ms. value_before h last ms (k ms)))
+kept-three h first step last one two three = good-front (good-before plain h first one) (kept-good h step last two three)
 
 -- ---- calls
 

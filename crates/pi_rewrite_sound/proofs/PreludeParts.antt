@@ -21,7 +21,7 @@ use Rattle.pi_effects.specs.BuiltIns.{reading_functions, tests, other_predicates
 use Rattle.pi_meaning.specs.Shared.Names.{later_predicates, is_later_predicate, is_later_function, is_given_predicate, is_given_function}
 use Rattle.pi_meaning.specs.OverNames.Forms.{form_of, readings}
 use Rattle.pi_meaning.specs.OverNames.Prelude.{cell, prelude}
-use Rattle.pi_rewrite_spec.specs.Forms.{Knows, IsPredicateCall, IsPattern, IsAssigned, IsExpression, AreExpressions, IsExpressionAt, IsGoalAt, IsGoal}
+use Rattle.pi_rewrite_spec.specs.Forms.{IsRead, AreRead, Knows, IsPredicateCall, IsPattern, IsAssigned, IsExpression, AreExpressions, IsExpressionAt, IsGoalAt, IsGoal}
 use Rattle.pi_rewrite_laws.specs.Within.{IsFree, IsPart}
 use Rattle.pi_rewrite_laws.specs.Laws.{known_of}
 
@@ -61,18 +61,19 @@ goal-there : (known : Knows) (name : List ℕ) (es : ExpTrees) → form_of name 
     IsTrue (is_given_predicate name (exp_count es) || known.predicate name (exp_count es)) → IsGoal known (call name es)
 unfolding IsGoal
 goal-there known name es form exps plain there =
-    subst (λ o. IsPredicateCall known o name (exp_count es) (AreExpressions known es) (IsExpressionAt known es) (IsGoalAt known es) × IsAssigned o es) (sym form) ((exps, plain, there), tt)
+    subst (λ o. IsPredicateCall known o name (exp_count es) (AreRead known (readings name (exp_count es)) es) (IsExpressionAt known es) (IsGoalAt known es) × IsAssigned o es) (sym form)
+    ((subst (λ rs. AreRead known rs es) (sym plain) exps, there), tt)
 
 -- `L+1`
 abbrev one_more : ExpTree
 one_more = call (codes "+") (exp (var (codes "L")) (exp (int (pos 1)) no_exps))
 
 sum : (program : ProgramTree) → IsExpression (known_of program) one_more
-unfolding IsExpression exp_count
+unfolding IsRead exp_count
 sum program = ((tt, (tt, tt)), first-there (is_given_function (codes "+") 2) ((known_of program).function (codes "+") 2) names-there.4)
 
 pub prelude-parts : (program : ProgramTree) → AllByRecursion (IsPart (known_of program)) program → AllByRecursion (IsPart (known_of program)) (prelude ++ program)
-unfolding prelude IsExpression IsPattern form_of readings exp_count
+unfolding prelude IsRead IsPattern form_of readings exp_count
 prelude-parts program is = (
   record { modes = tt; clause = (record { head = (tt, (((tt, tt), tt), tt)); cond = tt; events = refl; body = goal-there (known_of program) (codes "=") (exp (var (codes "X")) (exp (var (codes "Y")) no_exps)) refl (tt, (tt, tt)) refl (first-there (is_given_predicate (codes "=") 2) ((known_of program).predicate (codes "=") 2) names-there.0) }, free-of (codes "member") 2 names-free.0 _ refl) },
   (

@@ -6,6 +6,7 @@ pub mod TermLemmas
 pub mod RunLemmas
 pub mod ControlLemmas
 pub mod BuiltInLemmas
+pub mod ReadingLemmas
 pub mod FlatLemmas
 pub mod TouchLemmas
 pub mod InnerLemmas

@@ -21,7 +21,7 @@ use Rattle.pi_meaning.specs.OverNames.Assigning.{place_of, with_names, with_valu
 use Rattle.pi_meaning.specs.OverNames.Forms.{plain}
 use Rattle.pi_meaning.specs.OverNames.Goals.{value_of, values_of}
 use Rattle.pi_rewrite_spec.specs.Slots.{SlotNames, slot_known, slot_or_next, slots_with, slot_for, slots_for}
-use Rattle.pi_rewrite_spec.specs.Values.{is_flat, are_flat}
+use Rattle.pi_rewrite_spec.specs.Values.{is_flat_as, is_flat, are_flat}
 use Rattle.pi_rewrite_spec.specs.Forms.{Knows, IsTerm, AreTerms}
 use Rattle.pi_rewrite_spec.specs.Loops.{as_written, started, kept_goals}
 use Rattle.pi_rewrite_spec.proofs.SameLemmas.{SameBy, same-one, same-map, same-then}
@@ -66,7 +66,7 @@ are-terms [] = tt
 are-terms (name ∷ names) = (tt, are-terms names)
 
 written-flat : (names : Names) → are_flat (as_written names) ≡ true
-unfolding is_flat as_written
+unfolding is_flat_as as_written
 written-flat [] = refl
 written-flat (name ∷ names) = written-flat names
 
@@ -75,7 +75,7 @@ unfolding IsTerm
 array-is-term names = are-terms names
 
 array-is-flat : (names : Names) → is_flat (array (as_written names)) ≡ true
-unfolding is_flat
+unfolding is_flat_as
 array-is-flat names = written-flat names
 
 array-comes : (set : Setting) (m : Level) (before names : Names) (p : Place) →
@@ -86,7 +86,7 @@ array-comes set m before names p =
     ∙ then-of-one (written_values names p) (λ all. one (record { tree = comp array_name all.trees; names = all.names; state = all.state }))
 
 pub started-grows : (known : Knows) (set : Setting) (b : Builtins) (l m : Level) (h : ℕ) → Alike known set b l m → (before : Names) (ns : SlotNames) → Grows ns (started h before ns).names
-started-grows known set b l m h alike before ns = (flat-filled known set b l m h before (array (as_written before)) alike (array-is-term before) (array-is-flat before)).grows ns
+started-grows known set b l m h alike before ns = (flat-filled known set b l m h plain before (array (as_written before)) alike (array-is-term before) (array-is-flat before)).grows ns
 
 -- All of them are there when the loop starts, and what slots have stays.
 pub started-stays : (known : Knows) (set : Setting) (b : Builtins) (l m : Level) (h : ℕ) → Alike known set b l m → (before : Names) (n : Room) (ns : SlotNames) (e : Environment) (slots : Places) (s : State) → Agrees n h ns e slots →
@@ -103,7 +103,7 @@ started-stays known set b l m h alike before n ns e slots s a room =
     R p q = AtPlace l n h (started h before ns).names p q × Extends slots p.slots
 
     filled : SameFilled b l m h (value_of set plain before (array (as_written before))) (started h before)
-    filled = flat-filled known set b l m h before (array (as_written before)) alike (array-is-term before) (array-is-flat before)
+    filled = flat-filled known set b l m h plain before (array (as_written before)) alike (array-is-term before) (array-is-flat before)
 
     behind : (p : Point) (x : Valued) → AtFilled l n h (started h before ns).names (started h before ns).tree slots p x → SameBy R (one p) (one (place_of x))
     behind _ _ (at_filled f more r u agrees extends holds) = same-one R _ _ (at_place f more r agrees, extends)

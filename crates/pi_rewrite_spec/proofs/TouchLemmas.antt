@@ -20,11 +20,11 @@ use Rattle.pi_meaning.specs.Shared.Handling.{handling}
 use Rattle.pi_meaning.specs.CoreMeaning.Meaning.{draining, strictly, succeeding, calling, catching, meaning}
 use Rattle.pi_meaning.specs.OverNames.Environment.{Environment, Valued}
 use Rattle.pi_meaning.specs.OverNames.Texts.{Names}
-use Rattle.pi_meaning.specs.OverNames.Forms.{plain}
+use Rattle.pi_meaning.specs.OverNames.Forms.{Reading}
 use Rattle.pi_meaning.specs.OverNames.Terms.{written_term}
 use Rattle.pi_meaning.specs.OverNames.Goals.{term_value, value_of}
 use Rattle.pi_rewrite_spec.specs.Slots.{SlotNames}
-use Rattle.pi_rewrite_spec.specs.Values.{SlotTerm, slot_term, is_flat, as_it_stands, is_below, are_below, evaluating, filling, filled_before}
+use Rattle.pi_rewrite_spec.specs.Values.{SlotTerm, slot_term, is_flat_as, as_it_stands, is_below, are_below, evaluating, filling, filled_before}
 use Rattle.pi_rewrite_spec.specs.Forms.{Knows, IsTerm}
 use Rattle.pi_rewrite_spec.proofs.SameLemmas.{SameBy, same-one}
 use Rattle.pi_rewrite_spec.proofs.FilledLemmas.{Filled, in_slot, is_int, is_atom, is_comp, AllFilled, none_filled, one_filled, extends-none, term_at, terms_at, in_front_of, filled-comes, all-filled-comes}
@@ -109,26 +109,26 @@ filling-runs known set b l m alike n h ns ms e (Tree.var k) slots s x a c = go (
 filling-runs known set b l m alike n h ns ms e t slots s x a c = evaluating-runs b l alike.core_drains t slots c.after s x.state x.tree c.comes
 
 -- an expression without a call, as the last one and before a call
-pub flat-last : (set : Setting) (b : Builtins) (l m : Level) (h : ℕ) (before : Names) (e : ExpTree) → IsTerm e → is_flat e ≡ true → SameLast b l m h (value_of set plain before e) (λ ns. as_it_stands (slot_term e ns))
+pub flat-last : (set : Setting) (b : Builtins) (l m : Level) (h : ℕ) (r : Reading) (before : Names) (e : ExpTree) → IsTerm e → is_flat_as r e ≡ true → SameLast b l m h (value_of set r before e) (λ ns. as_it_stands (slot_term e ns))
 unfolding meaning
-flat-last set b l m h before e is flat = record {
+flat-last set b l m h r before e is flat = record {
   grows = λ ns. term-grows e ns;
   same = λ n ns env slots s a room.
       let c : ComesTo n h (slot_term e ns) slots s (written_term e env s) = term-comes e is n h ns env slots s a room in
-      subst (λ (u : Trace Valued). SameBy (AtValue l n h (slot_term e ns).names (slot_term e ns).tree slots) (one (point l slots s)) u) (sym (flat-value set before e flat m (place env s) ∙ ap term_value c.there))
+      subst (λ (u : Trace Valued). SameBy (AtValue l n h (slot_term e ns).names (slot_term e ns).tree slots) (one (point l slots s)) u) (sym (flat-value set r before e flat m (place env s) ∙ ap term_value c.there))
       (same-one (AtValue l n h (slot_term e ns).names (slot_term e ns).tree slots) _ _ (at_value slots s c.value c.comes (extends-none slots)));
 }
 
-pub flat-filled : (known : Knows) (set : Setting) (b : Builtins) (l m : Level) (h : ℕ) (before : Names) (e : ExpTree) → Alike known set b l m → IsTerm e → is_flat e ≡ true →
-    SameFilled b l m h (value_of set plain before e) (λ ns. filled_before h (length ns) (slot_term e ns))
+pub flat-filled : (known : Knows) (set : Setting) (b : Builtins) (l m : Level) (h : ℕ) (r : Reading) (before : Names) (e : ExpTree) → Alike known set b l m → IsTerm e → is_flat_as r e ≡ true →
+    SameFilled b l m h (value_of set r before e) (λ ns. filled_before h (length ns) (slot_term e ns))
 unfolding meaning
-flat-filled known set b l m h before e alike is flat = record {
+flat-filled known set b l m h r before e alike is flat = record {
   grows = λ ns. term-grows e ns;
   same = λ n ns env slots s a room.
       let t : SlotTerm = slot_term e ns in
       let c : ComesTo n h t slots s (written_term e env s) = term-comes e is n h ns env slots s a room in
       subst (λ (u : Trace Valued). SameBy (AtFilled l n h t.names t.tree slots) (runs b (cond (is_below h t.tree) [] (filling (length ns) t.tree ∷ [])) (point l slots s)) u)
-      (sym (flat-value set before e flat m (place env s) ∙ ap term_value c.there)) (go n ns env slots s a t c.value c.comes (is_below h t.tree) refl);
+      (sym (flat-value set r before e flat m (place env s) ∙ ap term_value c.there)) (go n ns env slots s a t c.value c.comes (is_below h t.tree) refl);
 }
   where
     go : (n : Room) (ns : SlotNames) (env : Environment) (slots : Places) (s : State) → Agrees n h ns env slots → (t : SlotTerm) (x : Valued) → Comes n h t.names t.tree slots s x → (test : Bool) → is_below h t.tree ≡ test →

@@ -1,5 +1,5 @@
--- Which expressions and goals are lowered, loops and comprehensions among them: what a text without a fault has that holds no constraint whose sides are read as structure. Each name
--- that is called is one that the language gives, or one that the program has. (Own.)
+-- Which expressions and goals are lowered, loops, comprehensions and constraints among them: what a text without a fault has. Each name that is called is one that the language gives, or one
+-- that the program has; what stays as structure is called by none. (Own.)
 use Rattle.std.specs.Prelude.{◌≡◌, ◌≢◌, ℕ, zero, suc, ◌||◌, Bool, true, false, List, [], Option, Some, None, IsTrue, codes, ⊤}
 use Rattle.std.specs.Str.{bytes_eq}
 use Rattle.pi_syntax.specs.ExpTree.{ExpTree, var, int, atom, str, list, list_onto, array, call, quote, index, range, range_by, at, collect, and, or, arrow, if_then, if_else, foreach, while_do, do_while, ExpTrees, no_exps, exp, ExpBranches, no_branches, branch}
@@ -7,7 +7,8 @@ use Rattle.pi_syntax.specs.Signature.{exp_count}
 use Rattle.pi_meaning.specs.Shared.Names.{is_given_predicate, is_given_function}
 use Rattle.pi_meaning.specs.OverNames.Texts.{is_among, iterated, patterns_of}
 use Rattle.pi_meaning.specs.OverNames.Loops.{hidden}
-use Rattle.pi_meaning.specs.OverNames.Forms.{Form, negation, once, assignment, catch, by_term, membership, form_of, readings, is_find_all, is_count_all}
+use Rattle.pi_meaning.specs.OverNames.Forms.{Form, negation, once, assignment, catch, by_term, membership, form_of, Reading, plain, readings, first_reading, later_readings, operand_readings, is_find_all, is_count_all}
+use Rattle.pi_rewrite_spec.specs.Values.{stays}
 
 -- the predicates and functions of a program, with the prelude
 pub record Knows : Type 0 where
@@ -65,13 +66,18 @@ IsFunctionCall known true is_count name k exps value goal = value 0 × goal 1
 IsFunctionCall known false true name k exps value goal = goal 0
 IsFunctionCall known false false name k exps value goal = exps × IsTrue (is_given_function name k || known.function name k)
 
+-- the same where it may stay as a structure, of parts that are read as its own
+abbrev pub IsNode : Bool → Type 0 → Type 0 → Type 0
+IsNode true own called = own
+IsNode false own called = called
+
 abbrev pub IsPredicateCall : Knows → Option Form → List ℕ → ℕ → Type 0 → (ℕ → Type 0) → (ℕ → Type 0) → Type 0
-IsPredicateCall known None name k exps value goal = exps × (readings name k ≡ []) × IsTrue (is_given_predicate name k || known.predicate name k)
+IsPredicateCall known None name k exps value goal = exps × IsTrue (is_given_predicate name k || known.predicate name k)
 IsPredicateCall known (Some negation) name k exps value goal = goal 0
 IsPredicateCall known (Some once) name k exps value goal = goal 0
 IsPredicateCall known (Some assignment) name k exps value goal = value 1
 IsPredicateCall known (Some catch) name k exps value goal = goal 0 × value 1 × goal 2
-IsPredicateCall known (Some by_term) name k exps value goal = exps × (readings name k ≡ [])
+IsPredicateCall known (Some by_term) name k exps value goal = exps
 IsPredicateCall known (Some membership) name k exps value goal = ⊥
 
 -- `true`, `fail` or the call of a predicate without arguments
@@ -94,32 +100,34 @@ IsAssigned (Some assignment) es = ⊥
 IsAssigned form es = ⊤
 
 unfoldable mutual
-  pub IsExpression : Knows → ExpTree → Type 0
-  IsExpression known (var name) = ⊤
-  IsExpression known (int n) = ⊤
-  IsExpression known (atom name) = ⊤
-  IsExpression known (str text) = ⊤
-  IsExpression known (list es) = AreExpressions known es
-  IsExpression known (list_onto es e) = AreExpressions known es × IsExpression known e
-  IsExpression known (array es) = AreExpressions known es
-  IsExpression known (call name es) =
-      IsFunctionCall known (is_find_all name (exp_count es)) (is_count_all name (exp_count es)) name (exp_count es) (AreExpressions known es) (IsExpressionAt known es) (IsGoalAt known es)
-  IsExpression known (quote e) = IsTerm e
-  IsExpression known (index e es) = IsExpression known e × AreExpressions known es × (es ≢ no_exps)
-  IsExpression known (range first last) = IsExpression known first × IsExpression known last
-  IsExpression known (range_by first step last) = IsExpression known first × IsExpression known step × IsExpression known last
+  -- an expression that is read so
+  pub IsRead : Knows → Reading → ExpTree → Type 0
+  IsRead known r (var name) = ⊤
+  IsRead known r (int n) = ⊤
+  IsRead known r (atom name) = ⊤
+  IsRead known r (str text) = ⊤
+  IsRead known r (list es) = AreRead known [] es
+  IsRead known r (list_onto es e) = AreRead known [] es × IsRead known plain e
+  IsRead known r (array es) = AreRead known [] es
+  IsRead known r (call name es) =
+      IsNode (stays r name (exp_count es)) (AreRead known (operand_readings r name (exp_count es)) es)
+      (IsFunctionCall known (is_find_all name (exp_count es)) (is_count_all name (exp_count es)) name (exp_count es) (AreRead known [] es) (IsExpressionAt known es) (IsGoalAt known es))
+  IsRead known r (quote e) = IsTerm e
+  IsRead known r (index e es) = IsRead known plain e × AreRead known [] es × (es ≢ no_exps)
+  IsRead known r (range first last) = IsRead known plain first × IsRead known plain last
+  IsRead known r (range_by first step last) = IsRead known plain first × IsRead known plain step × IsRead known plain last
   -- no name of a text is the one of what a comprehension gathers
-  IsExpression known (collect is_array e es) = AreUnits known es × IsExpression known e × (is_among (patterns_of es) hidden ≡ false)
-  IsExpression known e = ⊥
+  IsRead known r (collect is_array e es) = AreUnits known es × IsRead known plain e × (is_among (patterns_of es) hidden ≡ false)
+  IsRead known r e = ⊥
 
-  pub AreExpressions : Knows → ExpTrees → Type 0
-  AreExpressions known no_exps = ⊤
-  AreExpressions known (exp e es) = IsExpression known e × AreExpressions known es
+  pub AreRead : Knows → List Reading → ExpTrees → Type 0
+  AreRead known rs no_exps = ⊤
+  AreRead known rs (exp e es) = IsRead known (first_reading rs) e × AreRead known (later_readings rs) es
 
   -- the one with this number, counted from 0, is one
   pub IsExpressionAt : Knows → ExpTrees → ℕ → Type 0
   IsExpressionAt known no_exps i = ⊥
-  IsExpressionAt known (exp e es) zero = IsExpression known e
+  IsExpressionAt known (exp e es) zero = IsRead known plain e
   IsExpressionAt known (exp e es) (suc i) = IsExpressionAt known es i
 
   pub IsGoalAt : Knows → ExpTrees → ℕ → Type 0
@@ -130,7 +138,7 @@ unfoldable mutual
   pub IsGoal : Knows → ExpTree → Type 0
   IsGoal known (atom name) = IsAtomGoal known (bytes_eq name (codes "true")) (bytes_eq name (codes "fail")) name
   IsGoal known (call name es) =
-      IsPredicateCall known (form_of name (exp_count es)) name (exp_count es) (AreExpressions known es) (IsExpressionAt known es) (IsGoalAt known es) × IsAssigned (form_of name (exp_count es)) es
+      IsPredicateCall known (form_of name (exp_count es)) name (exp_count es) (AreRead known (readings name (exp_count es)) es) (IsExpressionAt known es) (IsGoalAt known es) × IsAssigned (form_of name (exp_count es)) es
   IsGoal known (and es) = AreGoals known es
   IsGoal known (or es) = AreBranches known es
   IsGoal known (if_then bs) = HaveGoals known bs
@@ -153,7 +161,7 @@ unfoldable mutual
   IsBranch known (arrow c e) = IsGoal known c × IsGoal known e
   IsBranch known (atom name) = IsAtomGoal known (bytes_eq name (codes "true")) (bytes_eq name (codes "fail")) name
   IsBranch known (call name es) =
-      IsPredicateCall known (form_of name (exp_count es)) name (exp_count es) (AreExpressions known es) (IsExpressionAt known es) (IsGoalAt known es) × IsAssigned (form_of name (exp_count es)) es
+      IsPredicateCall known (form_of name (exp_count es)) name (exp_count es) (AreRead known (readings name (exp_count es)) es) (IsExpressionAt known es) (IsGoalAt known es) × IsAssigned (form_of name (exp_count es)) es
   IsBranch known (and es) = AreGoals known es
   IsBranch known (or es) = AreBranches known es
   IsBranch known (if_then bs) = HaveGoals known bs
@@ -176,3 +184,10 @@ unfoldable mutual
   pub IsCollection : Knows → ExpTree → Type 0
   IsCollection known (call name es) = IsExpressionAt known es 1
   IsCollection known e = ⊥
+
+-- where all is evaluated
+abbrev pub IsExpression : Knows → ExpTree → Type 0
+IsExpression known e = IsRead known plain e
+
+abbrev pub AreExpressions : Knows → ExpTrees → Type 0
+AreExpressions known es = AreRead known [] es

@@ -129,14 +129,18 @@ abbrev pub begins_flat : ExpTrees → Bool
 begins_flat no_exps = false
 begins_flat (exp e es) = is_flat e
 
+-- the bounds of a range, and its step
+abbrev pub two_parts : SlotValue → (SlotNames → SlotValue) → SlotValues
+two_parts first last = before_values first (before_values (last first.names) (no_values (last first.names).names))
+
+abbrev pub three_parts : SlotValue → (SlotNames → SlotValue) → (SlotNames → SlotValue) → SlotValues
+three_parts first step last = before_values first (two_parts (step first.names) last)
+
 abbrev pub range_of_two : SlotValue → (SlotNames → SlotValue) → SlotValue
-range_of_two first last = applied (codes "..") (before_values first (before_values (last first.names) (no_values (last first.names).names)))
+range_of_two first last = applied (codes "..") (two_parts first last)
 
 abbrev pub range_of_three : SlotValue → (SlotNames → SlotValue) → (SlotNames → SlotValue) → SlotValue
-range_of_three first step last =
-    let two : SlotValue = step first.names in
-    let three : SlotValue = last two.names in
-    applied (codes "..") (before_values first (before_values two (before_values three (no_values three.names))))
+range_of_three first step last = applied (codes "..") (three_parts first step last)
 
 -- ---- control
 

@@ -1,5 +1,5 @@
 -- Terms and patterns over slots, and what goals make of values before they are used. (Own; the order of evaluation is that of `pi_meaning`.)
-use Rattle.std.specs.Prelude.{ℕ, nat_lt, Bool, true, false, ◌&&◌, cond, List, [], ◌∷◌, ◌++◌, length, codes}
+use Rattle.std.specs.Prelude.{ℕ, nat_lt, Bool, true, false, ◌&&◌, ◌||◌, cond, List, [], ◌∷◌, ◌++◌, length, codes}
 use Rattle.pi_terms.specs.Tree.{Tree, Trees, no_trees, tree, trees_of}
 use Rattle.pi_terms.specs.ListNames.{nil, cell_name}
 use Rattle.pi_terms.specs.PatternTree.{PatternTree, slot, exact_int, exact_atom, compound, named, PatternTrees, no_patterns, pattern}
@@ -7,8 +7,10 @@ use Rattle.pi_syntax.specs.PrintTerm.{array_name}
 use Rattle.pi_effects.specs.Texts.{text_list}
 use Rattle.pi_effects.specs.Inner.{itself_name}
 use Rattle.pi_syntax.specs.ExpTree.{ExpTree, var, int, atom, str, list, list_onto, array, call, quote, index, range, range_by, at, collect, and, or, arrow, if_then, if_else, foreach, while_do, do_while, ExpTrees, no_exps, exp}
+use Rattle.pi_syntax.specs.Signature.{exp_count}
 use Rattle.pi_core.specs.GoalTree.{GoalTree}
 use Rattle.pi_meaning.specs.OverNames.Terms.{items_onto}
+use Rattle.pi_meaning.specs.OverNames.Forms.{Reading, plain, operand, boolean, ranged, first_reading, later_readings, operand_readings, is_operand_node, is_sum, is_connective, is_constraint}
 use Rattle.pi_rewrite_spec.specs.Slots.{SlotNames, slot_for, slots_for, with_value}
 
 -- ---- terms
@@ -73,22 +75,48 @@ unfoldable mutual
   slot_terms no_exps ns = no_terms ns
   slot_terms (exp e es) ns = before_terms (slot_term e ns) (slot_terms es (slot_term e ns).names)
 
--- an expression without a call: its value is the term as it stands
-unfoldable mutual
-  pub is_flat : ExpTree → Bool
-  is_flat (var name) = true
-  is_flat (int n) = true
-  is_flat (atom name) = true
-  is_flat (str text) = true
-  is_flat (list es) = are_flat es
-  is_flat (list_onto es e) = are_flat es && is_flat e
-  is_flat (array es) = are_flat es
-  is_flat (quote e) = true
-  is_flat e = false
+-- ---- what stays as structure
 
-  pub are_flat : ExpTrees → Bool
-  are_flat no_exps = true
-  are_flat (exp e es) = is_flat e && are_flat es
+-- A call that stays as a structure of what its arguments come to: of an operand signs, `abs` and `sum`, of a Boolean expression connectives and relations.
+abbrev pub stays : Reading → List ℕ → ℕ → Bool
+stays plain name k = false
+stays ranged name k = false
+stays operand name k = is_operand_node name k || is_sum name k
+stays boolean name k = is_connective name k || is_constraint name k
+
+-- a range stays as one
+abbrev pub is_ranged : Reading → Bool
+is_ranged plain = false
+is_ranged operand = false
+is_ranged boolean = false
+is_ranged ranged = true
+
+-- an expression without a call, where it is read so: its value is the term as it stands
+unfoldable mutual
+  pub is_flat_as : Reading → ExpTree → Bool
+  is_flat_as r (var name) = true
+  is_flat_as r (int n) = true
+  is_flat_as r (atom name) = true
+  is_flat_as r (str text) = true
+  is_flat_as r (list es) = are_flat_as [] es
+  is_flat_as r (list_onto es e) = are_flat_as [] es && is_flat_as plain e
+  is_flat_as r (array es) = are_flat_as [] es
+  is_flat_as r (quote e) = true
+  is_flat_as r (call name es) = stays r name (exp_count es) && are_flat_as (operand_readings r name (exp_count es)) es
+  is_flat_as r (range first last) = is_ranged r && (is_flat_as plain first && is_flat_as plain last)
+  is_flat_as r (range_by first step last) = is_ranged r && (is_flat_as plain first && (is_flat_as plain step && is_flat_as plain last))
+  is_flat_as r e = false
+
+  pub are_flat_as : List Reading → ExpTrees → Bool
+  are_flat_as rs no_exps = true
+  are_flat_as rs (exp e es) = is_flat_as (first_reading rs) e && are_flat_as (later_readings rs) es
+
+-- the same where all is evaluated
+abbrev pub is_flat : ExpTree → Bool
+is_flat e = is_flat_as plain e
+
+abbrev pub are_flat : ExpTrees → Bool
+are_flat es = are_flat_as [] es
 
 -- ---- values
 
@@ -132,15 +160,25 @@ abbrev pub filled_before : ℕ → ℕ → SlotTerm → SlotValue
 filled_before h m t = record { goals = cond (is_below h t.tree) [] (filling m t.tree ∷ []); tree = t.tree; names = t.names }
 
 -- an expression as the last one that is evaluated, or one before a call; `made` is what it comes to where it has a call
-abbrev pub last_value : ExpTree → SlotNames → SlotValue → SlotValue
-last_value e ns made = cond (is_flat e) (as_it_stands (slot_term e ns)) made
+abbrev pub last_value_as : Reading → ExpTree → SlotNames → SlotValue → SlotValue
+last_value_as r e ns made = cond (is_flat_as r e) (as_it_stands (slot_term e ns)) made
 
-abbrev pub value_before : ℕ → ExpTree → SlotNames → SlotValue → SlotValue
-value_before h e ns made = cond (is_flat e) (filled_before h (length ns) (slot_term e ns)) made
+abbrev pub value_before_as : Reading → ℕ → ExpTree → SlotNames → SlotValue → SlotValue
+value_before_as r h e ns made = cond (is_flat_as r e) (filled_before h (length ns) (slot_term e ns)) made
 
 -- the same by whether no call stands behind it
+abbrev pub value_by_as : Reading → Bool → ℕ → ExpTree → SlotNames → SlotValue → SlotValue
+value_by_as r is_last h e ns made = cond is_last (last_value_as r e ns made) (value_before_as r h e ns made)
+
+-- where it is evaluated
+abbrev pub last_value : ExpTree → SlotNames → SlotValue → SlotValue
+last_value e ns made = last_value_as plain e ns made
+
+abbrev pub value_before : ℕ → ExpTree → SlotNames → SlotValue → SlotValue
+value_before h e ns made = value_before_as plain h e ns made
+
 abbrev pub value_by : Bool → ℕ → ExpTree → SlotNames → SlotValue → SlotValue
-value_by is_last h e ns made = cond is_last (last_value e ns made) (value_before h e ns made)
+value_by is_last h e ns made = value_by_as plain is_last h e ns made
 
 abbrev pub no_values : SlotNames → SlotValues
 no_values ns = record { goals = []; trees = []; names = ns }

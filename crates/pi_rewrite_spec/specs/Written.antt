@@ -1,5 +1,5 @@
 -- What goals and expressions of a text are lowered to, by where they stand. A loop is a call of its helper; what helpers there are is told by itself (`Helpers`). (Own.)
-use Rattle.std.specs.Prelude.{ℕ, suc, ◌+◌, ◌&&◌, Bool, true, false, List, [], ◌∷◌, ◌++◌, length, replicate, Option, Some, None}
+use Rattle.std.specs.Prelude.{ℕ, suc, ◌+◌, ◌&&◌, Bool, true, false, cond, List, [], ◌∷◌, ◌++◌, length, replicate, Option, Some, None, codes}
 use Rattle.pi_terms.specs.Tree.{Tree, comp}
 use Rattle.pi_terms.specs.ListNames.{nil}
 use Rattle.pi_syntax.specs.PrintTerm.{array_name}
@@ -7,12 +7,12 @@ use Rattle.pi_syntax.specs.ExpTree.{ExpTree, var, int, atom, str, list, list_ont
 use Rattle.pi_syntax.specs.Signature.{exp_count}
 use Rattle.pi_core.specs.GoalTree.{GoalTree}
 use Rattle.pi_meaning.specs.OverNames.Terms.{items_onto}
-use Rattle.pi_meaning.specs.OverNames.Forms.{form_of, is_find_all}
+use Rattle.pi_meaning.specs.OverNames.Forms.{form_of, is_find_all, Reading, plain, readings, first_reading, later_readings, operand_readings}
 use Rattle.pi_meaning.specs.OverNames.Texts.{Names, places, places_all, places_of_branches, occurring, occurring_all, behind, iterated, begins_with_iterator, shared_names, names_inside, variable_first, assigned, kept_names}
 use Rattle.pi_meaning.specs.OverNames.Loops.{hidden}
 use Rattle.pi_rewrite_spec.specs.Slots.{SlotNames, unnamed}
-use Rattle.pi_rewrite_spec.specs.Values.{is_flat, are_flat, SlotValue, SlotValues, last_value, value_before, value_by, no_values, before_values, value_of_parts, value_onto, slot_pattern}
-use Rattle.pi_rewrite_spec.specs.Goals.{SlotGoals, SlotBranches, just, never, no_value, value_at, call_goals, call_value, atom_goals, indexed_by, begins_flat, range_of_two, range_of_three, joined, choosing, as_goals, SlotArrow, branch_before}
+use Rattle.pi_rewrite_spec.specs.Values.{stays, is_ranged, is_flat, are_flat_as, SlotValue, SlotValues, value_before_as, value_by_as, last_value, value_before, value_by, no_values, before_values, value_of_parts, value_onto, slot_pattern}
+use Rattle.pi_rewrite_spec.specs.Goals.{SlotGoals, SlotBranches, just, never, no_value, value_at, call_goals, call_value, atom_goals, indexed_by, begins_flat, range_of_two, range_of_three, two_parts, three_parts, joined, choosing, as_goals, SlotArrow, branch_before}
 use Rattle.pi_rewrite_spec.specs.Sites.{Site, helpers_in, helpers_in_all, helpers_in_branches, helpers_in_units, behind_site, behind_exp, inside, following_sites, goal_sites, value_sites}
 use Rattle.pi_rewrite_spec.specs.Loops.{Ending, as_it_is, in_order, Loop, loop_slots, loop_goals}
 use Rattle.pi_rewrite_spec.specs.Iterators.{walk_slots, iterator_goals, tested}
@@ -113,58 +113,67 @@ started_goals true units s l ns = units ns
 started_goals false units s l ns = loop_goals s.filled s.before l ns
 
 unfoldable mutual
-  -- an expression with a call in it
-  pub made : Site → ExpTree → SlotNames → SlotValue
-  made s (list es) ns = value_of_parts (λ ts. items_onto ts (Tree.atom nil)) (parts s es ns)
-  made s (list_onto es e) ns =
-      value_onto (parts s es ns) (value_before s.filled e (parts s es ns).names (made (behind_site s (places_all es) (helpers_in_all es)) e (parts s es ns).names))
-  made s (array es) ns = value_of_parts (comp array_name) (parts s es ns)
-  made s (call name es) ns =
-      call_value name (exp_count es) (record {
+  -- an expression with a call in it, as it is read
+  pub made_as : Site → Reading → ExpTree → SlotNames → SlotValue
+  made_as s r (list es) ns = value_of_parts (λ ts. items_onto ts (Tree.atom nil)) (parts_as s [] es ns)
+  made_as s r (list_onto es e) ns =
+      value_onto (parts_as s [] es ns) (value_before s.filled e (parts_as s [] es ns).names (made_as (behind_site s (places_all es) (helpers_in_all es)) plain e (parts_as s [] es ns).names))
+  made_as s r (array es) ns = value_of_parts (comp array_name) (parts_as s [] es ns)
+  made_as s r (call name es) ns =
+      cond (stays r name (exp_count es)) (value_of_parts (comp name) (parts_as s (operand_readings r name (exp_count es)) es ns))
+      (call_value name (exp_count es) (record {
         variable = variable_first es;
         goals = goals_in (value_sites (is_find_all name (exp_count es)) s es) es;
         values = values_in (value_sites (is_find_all name (exp_count es)) s es) es;
-        all = arguments s es;
-      }) ns
-  made s (index e es) ns = indexed_by (value_by (begins_flat es) s.filled e ns (made s e ns)) (values_in (following_sites (behind_exp s e) es) es)
-  made s (range first last) ns = range_of_two (value_by (is_flat last) s.filled first ns (made s first ns)) (λ ms. last_value last ms (made (behind_exp s first) last ms))
-  made s (range_by first step last) ns =
-      range_of_three (value_by (is_flat step && is_flat last) s.filled first ns (made s first ns)) (λ ms. value_by (is_flat last) s.filled step ms (made (behind_exp s first) step ms))
-      (λ ms. last_value last ms (made (behind_site s (places first ++ places step) (helpers_in first + helpers_in step)) last ms))
-  made s (collect is_array e es) ns =
+        all = arguments_as s [] es;
+      }) ns)
+  made_as s r (index e es) ns = indexed_by (value_by (begins_flat es) s.filled e ns (made_as s plain e ns)) (values_in (following_sites (behind_exp s e) es) es)
+  made_as s r (range first last) ns =
+      cond (is_ranged r) (value_of_parts (comp (codes "..")) (two_parts (value_before s.filled first ns (made_as s plain first ns)) (λ ms. value_before s.filled last ms (made_as (behind_exp s first) plain last ms))))
+      (range_of_two (value_by (is_flat last) s.filled first ns (made_as s plain first ns)) (λ ms. last_value last ms (made_as (behind_exp s first) plain last ms)))
+  made_as s r (range_by first step last) ns =
+      let t : Site = behind_site s (places first ++ places step) (helpers_in first + helpers_in step) in
+      cond (is_ranged r) (value_of_parts (comp (codes ".."))
+      (three_parts (value_before s.filled first ns (made_as s plain first ns)) (λ ms. value_before s.filled step ms (made_as (behind_exp s first) plain step ms)) (λ ms. value_before s.filled last ms (made_as t plain last ms))))
+      (range_of_three (value_by (is_flat step && is_flat last) s.filled first ns (made_as s plain first ns)) (λ ms. value_by (is_flat last) s.filled step ms (made_as (behind_exp s first) plain step ms))
+      (λ ms. last_value last ms (made_as t plain last ms)))
+  made_as s r (collect is_array e es) ns =
       let t : Site = gathered_at s in
-      comprehension s.filled s.before (started_goals (begins_with_iterator es) (units t (in_order is_array) (gathering e) es (λ u ms. adding (last_value e ms (made u e ms)))) t
+      comprehension s.filled s.before (started_goals (begins_with_iterator es) (units t (in_order is_array) (gathering e) es (λ u ms. adding (last_value e ms (made_as u plain e ms)))) t
       (start_loop t (in_order is_array) (hidden ∷ []) (gathering e) es)) ns
-  made s (var name) ns = no_value ns
-  made s (int n) ns = no_value ns
-  made s (atom name) ns = no_value ns
-  made s (str text) ns = no_value ns
-  made s (quote e) ns = no_value ns
-  made s (at name e) ns = no_value ns
-  made s (and es) ns = no_value ns
-  made s (or es) ns = no_value ns
-  made s (arrow c e) ns = no_value ns
-  made s (if_then bs) ns = no_value ns
-  made s (if_else bs e) ns = no_value ns
-  made s (foreach es e) ns = no_value ns
-  made s (while_do c e) ns = no_value ns
-  made s (do_while e c) ns = no_value ns
+  made_as s r (var name) ns = no_value ns
+  made_as s r (int n) ns = no_value ns
+  made_as s r (atom name) ns = no_value ns
+  made_as s r (str text) ns = no_value ns
+  made_as s r (quote e) ns = no_value ns
+  made_as s r (at name e) ns = no_value ns
+  made_as s r (and es) ns = no_value ns
+  made_as s r (or es) ns = no_value ns
+  made_as s r (arrow c e) ns = no_value ns
+  made_as s r (if_then bs) ns = no_value ns
+  made_as s r (if_else bs e) ns = no_value ns
+  made_as s r (foreach es e) ns = no_value ns
+  made_as s r (while_do c e) ns = no_value ns
+  made_as s r (do_while e c) ns = no_value ns
 
   -- parts of a term, each evaluated before the term is used
-  pub parts : Site → ExpTrees → SlotNames → SlotValues
-  parts s no_exps ns = no_values ns
-  parts s (exp e es) ns = before_values (value_before s.filled e ns (made s e ns)) (parts (behind_exp s e) es (value_before s.filled e ns (made s e ns)).names)
+  pub parts_as : Site → List Reading → ExpTrees → SlotNames → SlotValues
+  parts_as s rs no_exps ns = no_values ns
+  parts_as s rs (exp e es) ns =
+      let v : SlotValue = value_before_as (first_reading rs) s.filled e ns (made_as s (first_reading rs) e ns) in
+      before_values v (parts_as (behind_exp s e) (later_readings rs) es v.names)
 
   -- arguments: those behind the last one with a call in it are evaluated by the call that uses them
-  pub arguments : Site → ExpTrees → SlotNames → SlotValues
-  arguments s no_exps ns = no_values ns
-  arguments s (exp e es) ns =
-      before_values (value_by (are_flat es) s.filled e ns (made s e ns)) (arguments (behind_exp s e) es (value_by (are_flat es) s.filled e ns (made s e ns)).names)
+  pub arguments_as : Site → List Reading → ExpTrees → SlotNames → SlotValues
+  arguments_as s rs no_exps ns = no_values ns
+  arguments_as s rs (exp e es) ns =
+      let v : SlotValue = value_by_as (first_reading rs) (are_flat_as (later_readings rs) es) s.filled e ns (made_as s (first_reading rs) e ns) in
+      before_values v (arguments_as (behind_exp s e) (later_readings rs) es v.names)
 
   -- each by itself, where it stands
   pub values_in : (ℕ → Site) → ExpTrees → List (SlotNames → SlotValue)
   values_in sites no_exps = []
-  values_in sites (exp e es) = (λ ns. last_value e ns (made (sites 0) e ns)) ∷ values_in (λ i. sites (suc i)) es
+  values_in sites (exp e es) = (λ ns. last_value e ns (made_as (sites 0) plain e ns)) ∷ values_in (λ i. sites (suc i)) es
 
   pub goals_in : (ℕ → Site) → ExpTrees → List (SlotNames → SlotGoals)
   goals_in sites no_exps = []
@@ -178,7 +187,7 @@ unfoldable mutual
         variable = variable_first es;
         goals = goals_in (goal_sites (form_of name (exp_count es)) s es) es;
         values = values_in (goal_sites (form_of name (exp_count es)) s es) es;
-        all = arguments s es;
+        all = arguments_as s (readings name (exp_count es)) es;
       }) ns
   goal_of s (and es) ns = all_of s es ns
   goal_of s (or es) ns = as_goals (any_of s es ns)
@@ -236,8 +245,18 @@ unfoldable mutual
   -- the bounds of a range that an iterator goes over, and its step
   pub bounds_of : Site → ExpTree → SlotNames → SlotValues
   bounds_of s (call name (exp e (exp (range first last) es))) ns =
-      pair_values s.filled (ahead first (made s first) (is_flat last)) last (made (behind_exp s first) last) ns
+      pair_values s.filled (ahead first (made_as s plain first) (is_flat last)) last (made_as (behind_exp s first) plain last) ns
   bounds_of s (call name (exp e (exp (range_by first step last) es))) ns =
-      three_values s.filled (ahead first (made s first) (is_flat step && is_flat last)) (ahead step (made (behind_exp s first) step) (is_flat last)) last
-      (made (behind_site s (places first ++ places step) (helpers_in first + helpers_in step)) last) ns
+      three_values s.filled (ahead first (made_as s plain first) (is_flat step && is_flat last)) (ahead step (made_as (behind_exp s first) plain step) (is_flat last)) last
+      (made_as (behind_site s (places first ++ places step) (helpers_in first + helpers_in step)) plain last) ns
   bounds_of s u ns = no_values ns
+
+-- where all is evaluated
+abbrev pub made : Site → ExpTree → SlotNames → SlotValue
+made s e = made_as s plain e
+
+abbrev pub parts : Site → ExpTrees → SlotNames → SlotValues
+parts s es = parts_as s [] es
+
+abbrev pub arguments : Site → ExpTrees → SlotNames → SlotValues
+arguments s es = arguments_as s [] es
