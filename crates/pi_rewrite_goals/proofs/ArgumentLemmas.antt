@@ -13,7 +13,7 @@ use Rattle.pi_syntax.specs.declared.exp.Exp.TheViews.{out-Exp, roll-Exp, roll-ou
 use Rattle.pi_rewrite_spec.specs.Slots.{SlotNames}
 use Rattle.pi_rewrite_spec.specs.Goals.{no_value, value_at}
 use Rattle.pi_rewrite_spec.specs.Sites.{Site}
-use Rattle.pi_rewrite_spec.specs.Written.{made, is_range, collection_of}
+use Rattle.pi_rewrite_spec.specs.Written.{made_as, made, is_range, collection_of}
 use Rattle.pi_rewrite_spec.specs.Helpers.{value_helpers, helpers_at, collection_helpers}
 use Rattle.pi_rewrite_goals.specs.Planned.{IsCollectionOver}
 use Rattle.pi_rewrite_goals.proofs.ValueLemmas.{put-none}
@@ -65,7 +65,7 @@ pub none-found : (s : Site) (e : ExpTree) (ns ms : SlotNames) (old new : List Go
 none-found s e ns ms old new t over put shape same = record { ranges = over.ranges; value = put-none (collection_of s e ns) ns old new t ms over.value put shape same }
 
 pub no-call : (s : Site) (e : ExpTree) (ns : SlotNames) → calls e ≡ false → GoesOverNone s e ns
-unfolding made value_helpers
+unfolding made_as value_helpers
 no-call s (call name fs) ns is = absurd (cc)
 no-call s (var n) ns is = record { ranges = refl; value = refl; helpers = refl }
 no-call s (int n) ns is = record { ranges = refl; value = refl; helpers = refl }
@@ -90,7 +90,7 @@ no-call s (while_do f g) ns is = record { ranges = refl; value = refl; helpers =
 no-call s (do_while f g) ns is = record { ranges = refl; value = refl; helpers = refl }
 
 pub few-arguments : (s : Site) (name : List ℕ) (es : List Exp) (ns : SlotNames) → length es < 2 → GoesOverNone s (call name (exps_of es)) ns
-unfolding made value_helpers value_at helpers_at
+unfolding made_as value_helpers value_at helpers_at
 few-arguments s name [] ns few = record { ranges = refl; value = refl; helpers = refl }
 few-arguments s name (x ∷ []) ns few = record { ranges = refl; value = refl; helpers = refl }
 few-arguments s name (x ∷ y ∷ es) ns few = absurd (omega (arith, few))

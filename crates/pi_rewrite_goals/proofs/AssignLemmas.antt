@@ -13,7 +13,7 @@ use Rattle.pi_rewrite_spec.specs.Values.{SlotValue}
 use Rattle.pi_rewrite_spec.specs.Goals.{assigned}
 use Rattle.pi_rewrite_spec.specs.Sites.{Site, behind_exp}
 use Rattle.pi_rewrite_loops.specs.Parts.{IsValue, AreGoals}
-use Rattle.pi_rewrite_goals.specs.Lowering.{value_of, by_place, call_as_goal}
+use Rattle.pi_rewrite_goals.specs.Lowering.{by_place_as, value_of, by_place, call_as_goal}
 use Rattle.pi_rewrite_goals.specs.Calls.{assigned_to}
 use Rattle.pi_rewrite_goals.specs.declared.calls.CallForm.{CallForm}
 use Rattle.pi_rewrite_goals.specs.declared.calls.CallForm.TheVariants.{Assignment}
@@ -68,7 +68,7 @@ behind-to e v old mid new t a c is put =
 
 pub assigned-value : (s s' : Site) (to y : ExpTree) (ns a c : SlotNames) (old mid new : List GoalTree) (t : Tree) → s' ≡ behind_exp s to → IsValue (by_place true s' y ns) old mid t a → AreGoals (assigned_to to (record { goals = []; tree = t; names = a })) mid new c →
     AreGoals (assigned_to to (value_of (behind_exp s to) y ns)) old new c
-unfolding by_place
+unfolding by_place_as
 assigned-value s s' to y ns a c old mid new t go value put =
     goals-as (assigned_to to (value_of (behind_exp s to) y ns)) (assigned_to to (value_of s' y ns)) old new c (ap (λ z. assigned_to to (value_of z y ns)) (sym go)) (behind-to to (value_of s' y ns) old mid new t a c value put)
 

@@ -13,7 +13,7 @@ use Rattle.pi_rewrite_slots.proofs.FlatLemmas.{drop-next}
 use Rattle.pi_rewrite_spec.specs.Slots.{SlotNames}
 use Rattle.pi_rewrite_spec.specs.Goals.{SlotGoals, SlotBranches, in_turn, either_of, branch_before, choosing}
 use Rattle.pi_rewrite_spec.specs.Sites.{Site, behind_exp}
-use Rattle.pi_rewrite_spec.specs.Written.{goal_of, any_of, arrow_in, branches_of, made}
+use Rattle.pi_rewrite_spec.specs.Written.{made_as, goal_of, any_of, arrow_in, branches_of, made}
 use Rattle.pi_rewrite_goals.proofs.HelperLemmas.{behind-both}
 use Rattle.pi_rewrite_loops.specs.Parts.{IsAlone}
 use Rattle.pi_rewrite_goals.specs.Joined.{closed, chosen, branches_onto, chosen_onto, IsBranch, AreBranches, AreConditions}
@@ -58,7 +58,7 @@ goal-branch s e old g ns none alone = record {
 }
 
 pub arrow-branch : (s s' : Site) (e c b : ExpTree) (old : SlotNames) (test body : GoalTree) (m ns : SlotNames) → e ≡ ExpTree.arrow c b → s' ≡ behind_exp s c → IsAlone (goal_of s c old) test m → IsAlone (goal_of s' b m) body ns → IsBranch s e old (Choice test body) ns
-unfolding made
+unfolding made_as
 arrow-branch s s' e c b old test body m ns p go first second = record {
   is = λ others.
       let whole : SlotNames → SlotBranches = λ ms. record { branches = if_else (in_turn (goal_of s c old).goals) (in_turn (goal_of s' b ms).goals) (either_of (others (goal_of s' b ms).names).branches) ∷ []; names = (others (goal_of s' b ms).names).names } in
@@ -80,7 +80,7 @@ branches-none s s' es old bs here empty = sym (ap (λ xs. branches_onto xs (any_
 
 pub branches-more : (first s s' : Site) (es : List Exp) (i : ℕ) (x : Exp) (old m n : SlotNames) (bs cs : List Branch) (b : Branch) → i < length es → x ≡ get_or es i x → s' ≡ behind_exp s (exp_tree x) → IsBranch s (exp_tree x) m b n → cs ≡ bs ++ b ∷ [] →
     BranchesTo first s es i old m bs → BranchesTo first s' es (i + 1) old n cs
-unfolding made
+unfolding made_as
 branches-more first s s' es i x old m n bs cs b lt is go branch put so =
     let others : SlotNames → SlotBranches = any_of (behind_exp s (exp_tree x)) (exps_of (drop (i + 1) es)) in
     so ∙ (ap (λ xs. branches_onto bs (any_of s (exps_of xs) m)) (drop-next es i x lt is)
@@ -89,7 +89,7 @@ branches-more first s s' es i x old m n bs cs b lt is go branch put so =
     ∙ ap (λ z. branches_onto cs (any_of z (exps_of (drop (i + 1) es)) n)) (sym go)))))
 
 pub branches-end : (s s' : Site) (es : List Exp) (i : ℕ) (old m : SlotNames) (bs : List Branch) → length es ≤ i → BranchesTo s s' es i old m bs → AreBranches s (exps_of es) old bs m
-unfolding made
+unfolding made_as
 branches-end s s' es i old m bs past so = record { are = so ∙ ap (λ xs. branches_onto bs (any_of s' (exps_of xs) m)) (drop_all i es past) }
 
 -- ---- conditions one after the other
@@ -102,7 +102,7 @@ conditions-none s s' bs old cs here empty other = sym (ap (λ xs. chosen_onto xs
 
 pub conditions-more : (start s t u : Site) (bs : List (Exp × Exp)) (i : ℕ) (x : Exp × Exp) (old m n k : SlotNames) (cs ds : List Condition) (test body : GoalTree) (d : Condition) → i < length bs → x ≡ get_or bs i x → t ≡ behind_exp s (exp_tree x.0) → u ≡ behind_exp t (exp_tree x.1) →
     IsAlone (goal_of s (exp_tree x.0) m) test n → IsAlone (goal_of t (exp_tree x.1) n) body k → d ≡ record { test = test; body = body } → ds ≡ cs ++ d ∷ [] → ConditionsTo start s bs i old m cs → ConditionsTo start u bs (i + 1) old k ds
-unfolding made
+unfolding made_as
 conditions-more start s t u bs i x old m n k cs ds test body d lt is go on first second made put so other =
     let rest : SlotNames → SlotGoals = branches_of u (branches_in (drop (i + 1) bs)) other in
     let whole : SlotNames → SlotGoals = λ ms. record { goals = if_else (in_turn (goal_of s (exp_tree x.0) m).goals) (in_turn (goal_of t (exp_tree x.1) ms).goals) (in_turn (rest (goal_of t (exp_tree x.1) ms).names).goals) ∷ []; names = (rest (goal_of t (exp_tree x.1) ms).names).names } in
@@ -119,11 +119,11 @@ conditions-more start s t u bs i x old m n k cs ds test body d lt is go on first
     ∙ (ap (λ gs. record { goals = gs; names = (rest k).names }) (sym (chosen-push cs d (rest k).goals)) ∙ ap (λ xs. chosen_onto xs (rest k)) (sym put))))
 
 pub conditions-end : (s s' : Site) (bs : List (Exp × Exp)) (i : ℕ) (old m : SlotNames) (cs : List Condition) → length bs ≤ i → ConditionsTo s s' bs i old m cs → AreConditions s (branches_in bs) old cs m
-unfolding made
+unfolding made_as
 conditions-end s s' bs i old m cs past so = record { are = λ other. so other ∙ ap (λ xs. chosen_onto cs (branches_of s' (branches_in xs) other m)) (drop_all i bs past) }
 
 pub no-arrow : (s : Site) (x : Exp) → ((a b : Box Exp Global) → x ≡ e.Arrow a b → ⊥) → arrow_in s (exp_tree x) ≡ None
-unfolding made exp_tree held_tree
+unfolding made_as exp_tree held_tree
 no-arrow s (e.Var n) not = refl
 no-arrow s (e.Int n) not = refl
 no-arrow s (e.Atom n) not = refl

@@ -10,13 +10,13 @@ use Rattle.pi_syntax.specs.ExpTree.{ExpTree, ExpTrees, no_exps, exp, exp_tree}
 use Rattle.pi_syntax.specs.ExpLists.{exps_of}
 use Rattle.pi_syntax.specs.Signature.{exp_count}
 use Rattle.pi_syntax.specs.declared.exp.Exp.{Exp}
-use Rattle.pi_meaning.specs.OverNames.Forms.{Form, negation, once, assignment, catch, by_term, membership, form_of, is_find_all, is_count_all}
+use Rattle.pi_meaning.specs.OverNames.Forms.{Form, negation, once, assignment, catch, by_term, membership, form_of, readings, is_find_all, is_count_all}
 use Rattle.pi_meaning.specs.OverNames.Texts.{places, places_all, variable_first}
 use Rattle.pi_rewrite_spec.specs.Slots.{SlotNames}
 use Rattle.pi_rewrite_spec.specs.Goals.{SlotParts, goal_by, goals_at, value_at, assigned, catching, called, never, found_by, all_counted}
 use Rattle.pi_rewrite_spec.specs.Values.{SlotValue, applied}
 use Rattle.pi_rewrite_spec.specs.Sites.{Site, helpers_in, behind_site, behind_exp, following_sites, value_sites}
-use Rattle.pi_rewrite_spec.specs.Written.{made, goal_of, arguments}
+use Rattle.pi_rewrite_spec.specs.Written.{made_as, made, goal_of, arguments_as, arguments}
 use Rattle.pi_rewrite_spec.specs.Helpers.{HelperParts, helpers_at, value_helpers, goal_helpers, all_helpers}
 use Rattle.pi_rewrite_goals.specs.Lowering.{value_of, parts_at, helpers_by, goal_with, value_with, goal_helpers_with, value_helpers_with, call_as_goal, call_as_value, call_goal_helpers, call_value_helpers}
 use Rattle.pi_rewrite_goals.specs.Calls.{IsForm, HasCount, is_plain}
@@ -69,7 +69,7 @@ abbrev counted : (f form : CallForm) (n : ℕ) → HasCount f n → f ≡ form �
 counted f form n has by = subst (λ (g : CallForm). HasCount g n) by has
 
 pub goal-not : (s : Site) (name : List ℕ) (es : List Exp) (n : ℕ) (f : CallForm) (x : Exp) (ns : SlotNames) → Found name es n f → f ≡ CallForm.Negation → x ≡ get_or es 0 x → call_as_goal s name (exps_of es) ns ≡ goal_by GoalTree.not (goal_of s (exp_tree x) ns)
-unfolding made goals_at following_sites
+unfolding made_as goals_at following_sites
 goal-not s name es n f x ns found by at =
     goal-form s name es n (Some negation) ns found.same (formed f CallForm.Negation name n found.is by)
     ∙ ap (λ xs. goal_with (Some negation) s name (exps_of xs) ns) (one-item es x (sym found.same ∙ counted f CallForm.Negation n found.has by) at)
@@ -81,7 +81,7 @@ helpers-not s name es n f x found by at =
     ∙ ap (λ xs. goal_helpers_with (Some negation) s (exps_of xs)) (one-item es x (sym found.same ∙ counted f CallForm.Negation n found.has by) at)
 
 pub goal-once : (s : Site) (name : List ℕ) (es : List Exp) (n : ℕ) (f : CallForm) (x : Exp) (ns : SlotNames) → Found name es n f → f ≡ CallForm.Once → x ≡ get_or es 0 x → call_as_goal s name (exps_of es) ns ≡ goal_by GoalTree.once (goal_of s (exp_tree x) ns)
-unfolding made goals_at following_sites
+unfolding made_as goals_at following_sites
 goal-once s name es n f x ns found by at =
     goal-form s name es n (Some once) ns found.same (formed f CallForm.Once name n found.is by)
     ∙ ap (λ xs. goal_with (Some once) s name (exps_of xs) ns) (one-item es x (sym found.same ∙ counted f CallForm.Once n found.has by) at)
@@ -94,7 +94,7 @@ helpers-once s name es n f x found by at =
 
 pub goal-assigned : (s : Site) (name : List ℕ) (es : List Exp) (n : ℕ) (f : CallForm) (x y : Exp) (ns : SlotNames) → Found name es n f → f ≡ CallForm.Assignment → x ≡ get_or es 0 x → y ≡ get_or es 1 y →
     call_as_goal s name (exps_of es) ns ≡ assigned (variable_first (exp (exp_tree x) (exp (exp_tree y) no_exps))) (value_of (behind_exp s (exp_tree x)) (exp_tree y) ns)
-unfolding made value_at following_sites
+unfolding made_as value_at following_sites
 goal-assigned s name es n f x y ns found by at second =
     goal-form s name es n (Some assignment) ns found.same (formed f CallForm.Assignment name n found.is by)
     ∙ ap (λ xs. goal_with (Some assignment) s name (exps_of xs) ns) (two-items es x y (sym found.same ∙ counted f CallForm.Assignment n found.has by) at second)
@@ -115,7 +115,7 @@ handler_site s g ball = behind_site (behind_exp (behind_exp s ball) g) (places b
 
 pub goal-catch : (s : Site) (name : List ℕ) (es : List Exp) (n : ℕ) (f : CallForm) (x y z : Exp) (ns : SlotNames) → Found name es n f → f ≡ CallForm.Catch → x ≡ get_or es 0 x → y ≡ get_or es 1 y → z ≡ get_or es 2 z →
     call_as_goal s name (exps_of es) ns ≡ catching (goal_of (behind_exp s (exp_tree y)) (exp_tree x)) (goal_of (handler_site s (exp_tree x) (exp_tree y)) (exp_tree z)) (value_of (ball_site s (exp_tree x)) (exp_tree y) ns)
-unfolding made goals_at value_at
+unfolding made_as goals_at value_at
 goal-catch s name es n f x y z ns found by at second third =
     goal-form s name es n (Some catch) ns found.same (formed f CallForm.Catch name n found.is by)
     ∙ ap (λ xs. goal_with (Some catch) s name (exps_of xs) ns) (three-items es x y z (sym found.same ∙ counted f CallForm.Catch n found.has by) at second third)
@@ -136,7 +136,7 @@ helpers-never s name es n f found by = helpers-form s name es n (Some membership
 apart : false ≡ true → ⊥
 apart h = cc
 
-plain-goals : (form : Option Form) (s : Site) (name : List ℕ) (es : ExpTrees) (ns : SlotNames) → is_plain form ≡ true → goal_with form s name es ns ≡ called name (arguments s es ns)
+plain-goals : (form : Option Form) (s : Site) (name : List ℕ) (es : ExpTrees) (ns : SlotNames) → is_plain form ≡ true → goal_with form s name es ns ≡ called name (arguments_as s (readings name (exp_count es)) es ns)
 plain-goals None s name es ns plain = refl
 plain-goals (Some negation) s name es ns plain = absurd (apart plain)
 plain-goals (Some once) s name es ns plain = absurd (apart plain)
@@ -154,9 +154,11 @@ plain-helpers (Some catch) s es plain = absurd (apart plain)
 plain-helpers (Some by_term) s es plain = refl
 plain-helpers (Some membership) s es plain = absurd (apart plain)
 
-pub goal-plain : (s : Site) (name : List ℕ) (es : List Exp) (n : ℕ) (f : CallForm) (ns : SlotNames) → Found name es n f → f ≡ CallForm.Plain → call_as_goal s name (exps_of es) ns ≡ called name (arguments s (exps_of es) ns)
+pub goal-plain : (s : Site) (name : List ℕ) (es : List Exp) (n : ℕ) (f : CallForm) (ns : SlotNames) → Found name es n f → f ≡ CallForm.Plain →
+    call_as_goal s name (exps_of es) ns ≡ called name (arguments_as s (readings name (length es)) (exps_of es) ns)
 goal-plain s name es n f ns found by =
-    goal-form s name es n (form_of name n) ns found.same refl ∙ plain-goals (form_of name n) s name (exps_of es) ns (formed f CallForm.Plain name n found.is by)
+    goal-form s name es n (form_of name n) ns found.same refl ∙ (plain-goals (form_of name n) s name (exps_of es) ns (formed f CallForm.Plain name n found.is by)
+    ∙ ap (λ k. called name (arguments_as s (readings name k) (exps_of es) ns)) (count-exps es))
 
 pub helpers-plain : (s : Site) (name : List ℕ) (es : List Exp) (n : ℕ) (f : CallForm) → Found name es n f → f ≡ CallForm.Plain → call_goal_helpers s name (exps_of es) ≡ all_helpers s (exps_of es)
 helpers-plain s name es n f found by =
@@ -188,7 +190,7 @@ unfolding call_value_helpers
 helpers-value s name es finds is = ap (λ b. value_helpers_with b s name (exps_of es)) (ap (is_find_all name) (count-exps es) ∙ is)
 
 abbrev value_parts : Bool → Site → List Exp → SlotParts
-value_parts finds s es = parts_at (value_sites finds s (exps_of es)) s (exps_of es)
+value_parts finds s es = parts_at (value_sites finds s (exps_of es)) s [] (exps_of es)
 
 abbrev value_helper_parts : Bool → Site → List Exp → HelperParts
 value_helper_parts finds s es = helpers_by (value_sites finds s (exps_of es)) s (exps_of es)
@@ -201,7 +203,7 @@ found_helpers_in s es = helpers_at (value_helper_parts true s es).goals 1 ++ hel
 
 pub value-collected : (s : Site) (name : List ℕ) (es : List Exp) (x y : Exp) (ns : SlotNames) → is_find_all name (length es) ≡ true → x ≡ get_or es 0 x → y ≡ get_or es 1 y →
     call_as_value s name (exps_of es) ns ≡ found_by (goal_of (ball_site s (exp_tree x)) (exp_tree y) ns) (λ ms. value_of (behind_exp s (exp_tree y)) (exp_tree x) ms)
-unfolding made goals_at value_at
+unfolding made_as goals_at value_at
 value-collected s name es x y ns holds at second =
     value-form s name es true ns holds
     ∙ (value-found name (exp_count (exps_of es)) (length es) (value_parts true s es) ns (sym (count-exps es)) holds
@@ -218,7 +220,7 @@ helpers-collected s name es x y holds at second =
     ∙ ap (λ (t : Site). goal_helpers (ball_site s (exp_tree x)) (exp_tree y) ++ value_helpers t (exp_tree x)) (item-behind s (exp_tree y))))
 
 pub value-count : (s : Site) (name : List ℕ) (es : List Exp) (x : Exp) (ns : SlotNames) → is_find_all name (length es) ≡ false → is_count_all name (length es) ≡ true → x ≡ get_or es 0 x → call_as_value s name (exps_of es) ns ≡ all_counted (goal_of s (exp_tree x) ns)
-unfolding made goals_at following_sites
+unfolding made_as goals_at following_sites
 value-count s name es x ns fails holds at =
     value-form s name es false ns fails
     ∙ (value-counted name (exp_count (exps_of es)) (length es) (value_parts false s es) ns (sym (count-exps es)) fails holds

@@ -5,10 +5,13 @@ use Rattle.std.specs.Prelude.{map}
 use Rattle.pi_core.specs.CoreTree.{PredTree, pred_tree}
 use Rattle.pi_core.specs.declared.core_program.CorePred.{CorePred}
 use Rattle.pi_syntax.specs.ExpTree.{ExpTree, ExpTrees, ExpBranches, no_exps, exp, exp_tree}
+use Rattle.pi_syntax.specs.Signature.{exp_count}
 use Rattle.pi_syntax.specs.ExpLists.{exps_of}
 use Rattle.pi_syntax.specs.declared.exp.Exp.{Exp}
 use Rattle.pi_meaning.specs.OverNames.Texts.{places, places_all, places_of_branches}
-use Rattle.pi_rewrite_spec.specs.Values.{is_flat, are_flat}
+use Rattle.pi_meaning.specs.OverNames.Forms.{Reading, plain, first_reading, later_readings, operand_readings}
+use Rattle.pi_rewrite_spec.specs.Values.{stays, is_ranged, is_flat_as, are_flat_as, is_flat, are_flat}
+use Rattle.pi_rewrite_spec.proofs.ReadingLemmas.{third-of}
 use Rattle.pi_rewrite_spec.specs.Sites.{Site, helpers_in, helpers_in_all, helpers_in_branches, behind_site, behind_exp}
 use Rattle.pi_rewrite_spec.specs.Helpers.{value_helpers, all_helpers, goal_helpers, conjunct_helpers, branch_helpers}
 use Rattle.pi_rewrite_slots.specs.Branches.{branches_in}
@@ -110,37 +113,48 @@ no-flat h = absurd (apart h)
     apart h = cc
 
 mutual
-  unfolding value_helpers is_flat
+  unfolding value_helpers is_flat_as
 
-  pub flat-helpers : (s : Site) (e : ExpTree) → is_flat e ≡ true → value_helpers s e ≡ []
-  flat-helpers s (ExpTree.var name) flat = refl
-  flat-helpers s (ExpTree.int n) flat = refl
-  flat-helpers s (ExpTree.atom name) flat = refl
-  flat-helpers s (ExpTree.str text) flat = refl
-  flat-helpers s (ExpTree.list es) flat = flat-all s es flat
-  flat-helpers s (ExpTree.list_onto es e) flat =
-      ap (λ ps. ps ++ value_helpers (behind_site s (places_all es) (helpers_in_all es)) e) (flat-all s es (and-first (are_flat es) (is_flat e) flat)) ∙ flat-helpers (behind_site s (places_all es) (helpers_in_all es)) e (and-second (are_flat es) (is_flat e) flat)
-  flat-helpers s (ExpTree.array es) flat = flat-all s es flat
-  flat-helpers s (ExpTree.call name es) flat = no-flat flat
-  flat-helpers s (ExpTree.quote e) flat = refl
-  flat-helpers s (ExpTree.index e es) flat = no-flat flat
-  flat-helpers s (ExpTree.range first last) flat = no-flat flat
-  flat-helpers s (ExpTree.range_by first step last) flat = no-flat flat
-  flat-helpers s (ExpTree.at name e) flat = no-flat flat
-  flat-helpers s (ExpTree.collect is_array e es) flat = no-flat flat
-  flat-helpers s (ExpTree.and es) flat = no-flat flat
-  flat-helpers s (ExpTree.or es) flat = no-flat flat
-  flat-helpers s (ExpTree.arrow c e) flat = no-flat flat
-  flat-helpers s (ExpTree.if_then bs) flat = no-flat flat
-  flat-helpers s (ExpTree.if_else bs e) flat = no-flat flat
-  flat-helpers s (ExpTree.foreach es e) flat = no-flat flat
-  flat-helpers s (ExpTree.while_do c e) flat = no-flat flat
-  flat-helpers s (ExpTree.do_while e c) flat = no-flat flat
+  pub flat-helpers : (s : Site) (r : Reading) (e : ExpTree) → is_flat_as r e ≡ true → value_helpers s e ≡ []
+  flat-helpers s r (ExpTree.var name) flat = refl
+  flat-helpers s r (ExpTree.int n) flat = refl
+  flat-helpers s r (ExpTree.atom name) flat = refl
+  flat-helpers s r (ExpTree.str text) flat = refl
+  flat-helpers s r (ExpTree.list es) flat = flat-all s [] es flat
+  flat-helpers s r (ExpTree.list_onto es e) flat =
+      ap (λ ps. ps ++ value_helpers (behind_site s (places_all es) (helpers_in_all es)) e) (flat-all s [] es (and-first (are_flat es) (is_flat e) flat)) ∙ flat-helpers (behind_site s (places_all es) (helpers_in_all es)) plain e (and-second (are_flat es) (is_flat e) flat)
+  flat-helpers s r (ExpTree.array es) flat = flat-all s [] es flat
+  flat-helpers s r (ExpTree.call name es) flat =
+      third-of r name (exp_count es) (and-first (stays r name (exp_count es)) (are_flat_as (operand_readings r name (exp_count es)) es) flat) _ _ (all_helpers s es)
+      ∙ flat-all s (operand_readings r name (exp_count es)) es (and-second (stays r name (exp_count es)) (are_flat_as (operand_readings r name (exp_count es)) es) flat)
+  flat-helpers s r (ExpTree.quote e) flat = refl
+  flat-helpers s r (ExpTree.index e es) flat = no-flat flat
+  flat-helpers s r (ExpTree.range first last) flat =
+      let both : is_flat first && is_flat last ≡ true = and-second (is_ranged r) (is_flat first && is_flat last) flat in
+      ap (λ ps. ps ++ value_helpers (behind_exp s first) last) (flat-helpers s plain first (and-first (is_flat first) (is_flat last) both)) ∙ flat-helpers (behind_exp s first) plain last (and-second (is_flat first) (is_flat last) both)
+  flat-helpers s r (ExpTree.range_by first step last) flat =
+      let t : Site = behind_exp s first in
+      let u : Site = behind_site s (places first ++ places step) (helpers_in first + helpers_in step) in
+      let all : is_flat first && (is_flat step && is_flat last) ≡ true = and-second (is_ranged r) (is_flat first && (is_flat step && is_flat last)) flat in
+      let both : is_flat step && is_flat last ≡ true = and-second (is_flat first) (is_flat step && is_flat last) all in
+      ap (λ ps. ps ++ (value_helpers t step ++ value_helpers u last)) (flat-helpers s plain first (and-first (is_flat first) (is_flat step && is_flat last) all))
+      ∙ (ap (λ ps. ps ++ value_helpers u last) (flat-helpers t plain step (and-first (is_flat step) (is_flat last) both)) ∙ flat-helpers u plain last (and-second (is_flat step) (is_flat last) both))
+  flat-helpers s r (ExpTree.at name e) flat = no-flat flat
+  flat-helpers s r (ExpTree.collect is_array e es) flat = no-flat flat
+  flat-helpers s r (ExpTree.and es) flat = no-flat flat
+  flat-helpers s r (ExpTree.or es) flat = no-flat flat
+  flat-helpers s r (ExpTree.arrow c e) flat = no-flat flat
+  flat-helpers s r (ExpTree.if_then bs) flat = no-flat flat
+  flat-helpers s r (ExpTree.if_else bs e) flat = no-flat flat
+  flat-helpers s r (ExpTree.foreach es e) flat = no-flat flat
+  flat-helpers s r (ExpTree.while_do c e) flat = no-flat flat
+  flat-helpers s r (ExpTree.do_while e c) flat = no-flat flat
 
-  flat-all : (s : Site) (es : ExpTrees) → are_flat es ≡ true → all_helpers s es ≡ []
-  flat-all s no_exps flat = refl
-  flat-all s (exp e es) flat =
-      ap (λ ps. ps ++ all_helpers (behind_exp s e) es) (flat-helpers s e (and-first (is_flat e) (are_flat es) flat)) ∙ flat-all (behind_exp s e) es (and-second (is_flat e) (are_flat es) flat)
+  flat-all : (s : Site) (rs : List Reading) (es : ExpTrees) → are_flat_as rs es ≡ true → all_helpers s es ≡ []
+  flat-all s rs no_exps flat = refl
+  flat-all s rs (exp e es) flat =
+      ap (λ ps. ps ++ all_helpers (behind_exp s e) es) (flat-helpers s (first_reading rs) e (and-first (is_flat_as (first_reading rs) e) (are_flat_as (later_readings rs) es) flat))
+      ∙ flat-all (behind_exp s e) (later_readings rs) es (and-second (is_flat_as (first_reading rs) e) (are_flat_as (later_readings rs) es) flat)
 
 -- ---- expressions by their kind
 

@@ -13,14 +13,14 @@ use Rattle.pi_rewrite_spec.specs.Sites.{Site}
 use Rattle.pi_rewrite_spec.specs.Loops.{Ending, as_it_is, in_order, Loop as LoopTree, loop_slots, loop_goals, only_turn, started}
 use Rattle.pi_rewrite_spec.specs.Iterators.{behind_collection}
 use Rattle.pi_rewrite_spec.specs.Comprehensions.{adding, begun}
-use Rattle.pi_rewrite_spec.specs.Written.{Inner, inner_of, gathering, gathered_at, start_loop, turns_of, started_goals, made, goal_of, units}
+use Rattle.pi_rewrite_spec.specs.Written.{made_as, Inner, inner_of, gathering, gathered_at, start_loop, turns_of, started_goals, made, goal_of, units}
 use Rattle.pi_rewrite_spec.specs.Helpers.{started_helpers, goal_helpers, value_helpers, units_helpers}
 use Rattle.pi_rewrite_sites.specs.TextNames.{kept_of}
 use Rattle.pi_rewrite_loops.specs.Parts.{AreGoals, IsValue, goals_before}
 use Rattle.pi_rewrite_loops.specs.Helpers.{loop_of, lowered}
 use Rattle.pi_rewrite_loops.specs.declared.loops.Loop.{Loop}
 use Rattle.pi_rewrite_loops.proofs.WholeLemmas.{comprehension-whole}
-use Rattle.pi_rewrite_goals.specs.Lowering.{by_place, so_far}
+use Rattle.pi_rewrite_goals.specs.Lowering.{by_place_as, by_place, so_far}
 use Rattle.pi_rewrite_goals.specs.Opened.{onto, all_around, all_own, AreOpen}
 use Rattle.pi_rewrite_goals.specs.Started.{Begins, Ends, loop_text, turns_at}
 use Rattle.pi_rewrite_goals.specs.declared.opened.Open.{Open}
@@ -111,7 +111,7 @@ foreach-keeps s own kept e es i none inner is = is ∙ (ap (λ ns. kept_of s.bef
 
 pub put-foreach : (s : Site) (x e : ExpTree) (es : ExpTrees) (i : Inner) (kept : Names) (ns end : SlotNames) (old new : List GoalTree) → x ≡ ExpTree.foreach es e → i ≡ inner_of e → kept ≡ kept_names s.before es (assigned e) →
     AreGoals (started_goals (begins_with_iterator es) (units s as_it_is i es (λ t. goal_of t e)) s (start_loop s as_it_is kept i es) ns) old new end → AreGoals (goal_of s x ns) old new end
-unfolding made
+unfolding made_as
 put-foreach s x e es i kept ns end old new p inner keeps put =
     let whole : Inner → Names → SlotGoals = λ i kept. started_goals (begins_with_iterator es) (units s as_it_is i es (λ t. goal_of t e)) s (start_loop s as_it_is kept i es) ns in
     goals-as (goal_of s x ns) (whole i kept) old new end (ap (λ z. goal_of s z ns) p ∙ (ap (λ i. whole i (kept_names s.before es (assigned e))) (sym inner) ∙ ap (λ names. whole i names) (sym keeps))) put
@@ -131,7 +131,7 @@ added e u ms = adding (by_place true u e ms)
 
 pub put-collect : (s t : Site) (one : Names) (x e : ExpTree) (es : ExpTrees) (is_array : Bool) (i : Inner) (kept : Names) (ns ms us vs ks : SlotNames) (old a b new : List GoalTree) (term : Tree) → x ≡ ExpTree.collect is_array e es → i ≡ gathering e → kept ≡ hidden ∷ [] → t ≡ gathered_at s → one ≡ s.before →
     AreGoals (goals_before (started s.filled one ns)) old a ms → AreGoals (begun ms) a b us → AreGoals (started_goals (begins_with_iterator es) (units t (in_order is_array) i es (added e)) t (start_loop t (in_order is_array) kept i es) us) b new vs → term ≡ Tree.var (length ms) → ks ≡ behind_collection ms vs → IsValue (made s x ns) old new term ks
-unfolding made by_place
+unfolding made_as by_place_as
 put-collect s t one x e es is_array i kept ns ms us vs ks old a b new term p inner keeps at same start begins ends is behind =
     let loop : Site → Inner → Names → SlotNames → SlotGoals = λ z i kept. started_goals (begins_with_iterator es) (units z (in_order is_array) i es (added e)) z (start_loop z (in_order is_array) kept i es) in
     let whole : SlotNames → SlotGoals = loop (gathered_at s) (gathering e) (hidden ∷ []) in
@@ -142,7 +142,7 @@ put-collect s t one x e es is_array i kept ns ms us vs ks old a b new term p inn
 
 pub helpers-collect : (s t : Site) (x e : ExpTree) (es : ExpTrees) (is_array : Bool) (i : Inner) (kept : Names) (old all : List PredTree) → x ≡ ExpTree.collect is_array e es → i ≡ gathering e → kept ≡ hidden ∷ [] → t ≡ gathered_at s →
     all ≡ old ++ started_helpers (begins_with_iterator es) (λ u ending. units_helpers u ending i es (added e) (λ v. value_helpers v e)) (λ u. units u as_it_is i es (added e)) t (start_loop t (in_order is_array) kept i es) → all ≡ old ++ value_helpers s x
-unfolding value_helpers by_place
+unfolding value_helpers by_place_as
 helpers-collect s t x e es is_array i kept old all p inner keeps at put =
     let whole : Site → Inner → Names → List PredTree = λ z i kept. started_helpers (begins_with_iterator es) (λ u ending. units_helpers u ending i es (added e) (λ v. value_helpers v e)) (λ u. units u as_it_is i es (added e)) z (start_loop z (in_order is_array) kept i es) in
     put

@@ -12,7 +12,7 @@ use Rattle.pi_rewrite_spec.specs.Slots.{SlotNames}
 use Rattle.pi_rewrite_spec.specs.Goals.{SlotGoals}
 use Rattle.pi_rewrite_spec.specs.Sites.{Site, behind_exp}
 use Rattle.pi_rewrite_spec.specs.Loops.{as_it_is, Loop, loop_slots, loop_goals, while_turn, while_helper, do_turn, do_helper}
-use Rattle.pi_rewrite_spec.specs.Written.{made, goal_of, while_loop, do_loop, turns_of}
+use Rattle.pi_rewrite_spec.specs.Written.{made_as, made, goal_of, while_loop, do_loop, turns_of}
 use Rattle.pi_rewrite_spec.specs.Helpers.{goal_helpers}
 use Rattle.pi_rewrite_loops.specs.Parts.{AreGoals}
 use Rattle.pi_rewrite_sites.specs.SiteOf.{site_of}
@@ -34,13 +34,13 @@ from-none g none gs m empty put = put.goals ∙ ap (λ hs. hs ++ g.goals) empty
 -- ---- where the loop stands
 
 put-while : (s : Site) (before : Names) (e c b : ExpTree) (l : Loop) (ns m : SlotNames) (old new : List GoalTree) → e ≡ ExpTree.while_do c b → before ≡ s.before → l ≡ while_loop s c b → AreGoals (loop_goals s.filled before l ns) old new m → AreGoals (goal_of s e ns) old new m
-unfolding made
+unfolding made_as
 put-while s before e c b l ns m old new p same is put =
     goals-as (goal_of s e ns) (loop_goals s.filled before l ns) old new m
     (ap (λ z. goal_of s z ns) p ∙ (ap (λ w. loop_goals s.filled s.before w ns) (sym is) ∙ ap (λ w. loop_goals s.filled w l ns) (sym same))) put
 
 put-do : (s : Site) (before : Names) (e b c : ExpTree) (l : Loop) (ns m : SlotNames) (old new : List GoalTree) → e ≡ ExpTree.do_while b c → before ≡ s.before → l ≡ do_loop s b c → AreGoals (loop_goals s.filled before l ns) old new m → AreGoals (goal_of s e ns) old new m
-unfolding made
+unfolding made_as
 put-do s before e b c l ns m old new p same is put =
     goals-as (goal_of s e ns) (loop_goals s.filled before l ns) old new m
     (ap (λ z. goal_of s z ns) p ∙ (ap (λ w. loop_goals s.filled s.before w ns) (sym is) ∙ ap (λ w. loop_goals s.filled w l ns) (sym same))) put

@@ -16,13 +16,13 @@ use Rattle.pi_rewrite_spec.specs.Sites.{Site, helpers_in, behind_site, behind_ex
 use Rattle.pi_rewrite_spec.specs.Loops.{Loop, started}
 use Rattle.pi_rewrite_spec.specs.Iterators.{only, walked, over, iterator_goals}
 use Rattle.pi_rewrite_spec.specs.Ranges.{range_of, low_of, step_of, high_of, through, range_goals}
-use Rattle.pi_rewrite_spec.specs.Written.{made, gone_over, is_range, bounds_of, collection_of}
+use Rattle.pi_rewrite_spec.specs.Written.{made_as, made, gone_over, is_range, bounds_of, collection_of}
 use Rattle.pi_rewrite_spec.specs.Helpers.{value_helpers, helpers_at, collection_helpers}
 use Rattle.pi_rewrite_loops.specs.Parts.{AreGoals, IsValue, AreValues, IsRange, goals_before}
 use Rattle.pi_rewrite_loops.specs.Helpers.{range_between}
 use Rattle.pi_rewrite_loops.specs.declared.ranges.Bounds.{Bounds}
 use Rattle.pi_rewrite_loops.proofs.WholeLemmas.{iterator-whole, range-whole}
-use Rattle.pi_rewrite_goals.specs.Lowering.{by_place}
+use Rattle.pi_rewrite_goals.specs.Lowering.{by_place_as, by_place}
 use Rattle.pi_rewrite_goals.specs.Planned.{IsRangeOver, IsCollectionOver, IsGoneOver}
 use Rattle.pi_rewrite_goals.proofs.ValueLemmas.{value-as, goals-as, two-values, three-values}
 use Rattle.pi_rewrite_goals.proofs.HelperLemmas.{behind-both}
@@ -96,7 +96,7 @@ started-as h one before ns ms old a same start =
     goals-as (goals_before (started h before ns)) (goals_before (started h one ns)) old a ms (ap (λ w. goals_before (started h w ns)) (sym same)) start
 
 collection-is : (t : Site) (name : List ℕ) (u e o : ExpTree) (es : ExpTrees) (us : SlotNames) → u ≡ call name (exp e (exp o es)) → collection_of t u us ≡ by_place true t o us
-unfolding made value_at by_place
+unfolding made_as value_at by_place_as
 collection-is t name u e o es us p = ap (λ z. collection_of t z us) p
 
 -- a list or an array
@@ -148,7 +148,7 @@ all_three v w z = before_values v (before_values w (before_values z (no_values z
 
 range-of-two : (s s' : Site) (name : List ℕ) (e o x y : ExpTree) (es : ExpTrees) (flat : Bool) (ns m n : SlotNames) (old one new : List GoalTree) (t u w : Tree) → o ≡ range x y → flat ≡ is_flat y → s' ≡ behind_exp s x →
     IsValue (by_place flat s x ns) old one t m → IsValue (by_place true s' y m) one new u n → w ≡ Tree.int (pos 1) → IsRange (range_of (bounds_of s (call name (exp e (exp o es))) ns)) old new t w u n
-unfolding made by_place
+unfolding made_as by_place_as
 range-of-two s s' name e o x y es flat ns m n old one new t u w p f go begin end is =
     let v : SlotValue = by_place flat s x ns in
     let z : SlotValue = by_place true s' y m in
@@ -160,7 +160,7 @@ range-of-two s s' name e o x y es flat ns m n old one new t u w p f go begin end
 
 range-of-three : (s s' s'' : Site) (name : List ℕ) (e o x y k : ExpTree) (es : ExpTrees) (flat both : Bool) (ns m n l : SlotNames) (old one two new : List GoalTree) (t u w : Tree) → o ≡ range_by x y k → flat ≡ is_flat k → both ≡ (is_flat y && flat) → s' ≡ behind_exp s x → s'' ≡ behind_exp s' y →
     IsValue (by_place both s x ns) old one t m → IsValue (by_place flat s' y m) one two u n → IsValue (by_place true s'' k n) two new w l → IsRange (range_of (bounds_of s (call name (exp e (exp o es))) ns)) old new t u w l
-unfolding made by_place
+unfolding made_as by_place_as
 range-of-three s s' s'' name e o x y k es flat both ns m n l old one two new t u w p f g first second begin next end =
     let i : SlotValue = by_place both s x ns in
     let j : SlotValue = by_place flat s' y m in

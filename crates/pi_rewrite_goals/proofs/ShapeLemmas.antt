@@ -9,13 +9,14 @@ use Rattle.pi_core.specs.declared.core_program.CorePred.{CorePred}
 use Rattle.pi_syntax.specs.ExpTree.{ExpTree, ExpTrees, range, range_by}
 use Rattle.pi_syntax.specs.declared.exp.Exp as e
 use Rattle.pi_syntax.specs.declared.exp.Exp.{Exp}
+use Rattle.pi_meaning.specs.OverNames.Forms.{Reading}
 use Rattle.pi_rewrite_spec.specs.Slots.{SlotNames}
 use Rattle.pi_meaning.specs.OverNames.Texts.{assigned, kept_names}
 use Rattle.pi_rewrite_spec.specs.Sites.{Site}
 use Rattle.pi_rewrite_spec.specs.Loops.{as_it_is}
 use Rattle.pi_rewrite_spec.specs.Written.{inner_of}
 use Rattle.pi_rewrite_sites.proofs.NowTrees.{range-now, range_by-now}
-use Rattle.pi_rewrite_goals.specs.Lowering.{Puts, Gives, so_far}
+use Rattle.pi_rewrite_goals.specs.Lowering.{Puts, GivesAs, Gives, so_far}
 use Rattle.pi_rewrite_goals.specs.Shapes.{IsStepped}
 use Rattle.pi_rewrite_goals.specs.Opening.{Iterates, HasBegun, Gathers, IsGathering}
 use Rattle.pi_rewrite_goals.specs.declared.whole.Iterating.{Iterating}
@@ -25,8 +26,8 @@ use Rattle.pi_rewrite_loops.specs.Helpers.{lowered}
 pub put-as : (s : Site) (e f : ExpTree) (ns m : SlotNames) (old new : List GoalTree) (before all : List CorePred) → e ≡ f → Puts s f (so_far ns old before) (so_far m new all) → Puts s e (so_far ns old before) (so_far m new all)
 put-as s e f ns m old new before all is = subst (λ x. Puts s x (so_far ns old before) (so_far m new all)) (sym is)
 
-pub gives-as : (s : Site) (e f : ExpTree) (ns m : SlotNames) (old new : List GoalTree) (t : Tree) (before all : List CorePred) → e ≡ f → Gives s f t (so_far ns old before) (so_far m new all) → Gives s e t (so_far ns old before) (so_far m new all)
-gives-as s e f ns m old new t before all is = subst (λ x. Gives s x t (so_far ns old before) (so_far m new all)) (sym is)
+pub gives-as : (r : Reading) (s : Site) (e f : ExpTree) (ns m : SlotNames) (old new : List GoalTree) (t : Tree) (before all : List CorePred) → e ≡ f → GivesAs r s f t (so_far ns old before) (so_far m new all) → GivesAs r s e t (so_far ns old before) (so_far m new all)
+gives-as r s e f ns m old new t before all is = subst (λ x. GivesAs r s x t (so_far ns old before) (so_far m new all)) (sym is)
 
 no-step : (a b x y z : ExpTree) → range a b ≡ range_by x y z → ⊥
 no-step a b x y z e = absurd cc

@@ -1,26 +1,27 @@
 //! Calls, by their form.
 ghost use Rattle.std.specs.Prelude.{◌≡◌, ◌==◌, ◌&&◌, length, Some, IfOk};
 ghost use Rattle.std.specs.Str.{bytes_eq};
-ghost use Rattle.pi_syntax.specs.ExpTree.{exp_tree};
+ghost use Rattle.pi_syntax.specs.ExpTree.{exp_tree, call as call_tree};
 ghost use Rattle.pi_syntax.specs.ExpLists.{exps_of};
 ghost use Rattle.pi_meaning.specs.Shared.Names.{is_call};
 ghost use Rattle.pi_meaning.specs.OverNames.Forms.{form_of, catch};
 ghost use Rattle.pi_rewrite_spec.specs.Sites.{behind_exp};
 ghost use Rattle.pi_rewrite_spec.specs.Helpers.{value_helpers};
+ghost use Rattle.pi_rewrite_slots.specs.ReadAs.{reading_of};
 ghost use Rattle.pi_rewrite_sites.specs.SiteOf.{site_of};
 ghost use Rattle.pi_rewrite_loops.specs.Parts.{AreGoals, IsValue};
-ghost use Rattle.pi_rewrite_goals.specs.Lowering.{With, value_of, call_as_goal, call_as_value, call_goal_helpers, call_value_helpers};
+ghost use Rattle.pi_rewrite_goals.specs.Lowering.{With, GivesAs, so_far, value_of, call_as_goal, call_as_value, call_goal_helpers, call_value_helpers};
 ghost use Rattle.pi_rewrite_goals.specs.Calls.{HasCount, IsForm, IsTermForm, AreCatchSites, assigned_to, atom_tree, term_form, collected_of, counted_of};
 
 use crate::assigned::push_assigned;
 use crate::goals::{alone, push_goal};
 use crate::put::push_made;
 use crate::slotted::{applied, slotted};
-use crate::values::{value, values};
+use crate::values::{value, values, values_as};
 use pi_core::{CoreGoal, CorePred};
 use pi_rewrite_loops::{in_turn, push_fail};
 use pi_rewrite_sites::Site;
-use pi_rewrite_slots::Slots;
+use pi_rewrite_slots::{Reading, Readings, Slots};
 use pi_syntax::Exp;
 use pi_terms::Term;
 use std::alloc::{AllocError, Global};
@@ -128,7 +129,8 @@ pub(crate) fn push_call<'a>(
         CallForm::Catch => push_catch(alloc, site, name, args, slots, goals, helpers),
         CallForm::Never => push_fail(alloc, goals),
         CallForm::Plain => {
-            let terms = values(alloc, false, site, args, slots, goals, helpers)?;
+            let readings = Readings::of_goal(name, args.len());
+            let terms = values_as(alloc, false, readings, site, args, slots, goals, helpers)?;
             push_made(CoreGoal::call(alloc, name, &terms), goals)
         }
     }
@@ -221,9 +223,32 @@ fn catch_sites<'a>(
     })
 }
 
+/// A call that is read so: it may stay as a structure.
+#[cycle(lowering)]
+pub(crate) fn read_call<'a>(
+    alloc: Global,
+    reading: Reading,
+    site: &Site<'a>,
+    name: &str,
+    args: &'a [Exp],
+    slots: &mut Slots<'a>,
+    goals: &mut Vec<CoreGoal>,
+    helpers: &mut Vec<CorePred>,
+) -> Result<Term, AllocError>
+    ensures { IfOk result (λ term. GivesAs (reading_of reading) (site_of site.now) (call_tree name.now (exps_of args.now)) term
+        (so_far slots.old goals.old.items helpers.old.items) (so_far slots.new goals.new.items helpers.new.items)) }
+{
+    if !reading.stays(name, args.len()) {
+        return call_value(alloc, site, name, args, slots, goals, helpers);
+    }
+    let readings = reading.of_parts(name, args.len());
+    let parts = values_as(alloc, true, readings, site, args, slots, goals, helpers)?;
+    Term::comp(alloc, name, &parts)
+}
+
 /// The value of a call.
 #[cycle(lowering)]
-pub(crate) fn call_value<'a>(
+fn call_value<'a>(
     alloc: Global,
     site: &Site<'a>,
     name: &str,

@@ -15,7 +15,7 @@ use crate::values::{no_value, value};
 use pi_core::{CoreGoal, CorePred};
 use pi_rewrite_loops::{Bounds, Loop, push_over, push_started, push_through};
 use pi_rewrite_sites::Site;
-use pi_rewrite_slots::{Slots, is_flat};
+use pi_rewrite_slots::{Reading, Slots, is_flat};
 use pi_syntax::Exp;
 use pi_terms::Term;
 use std::alloc::{AllocError, Global};
@@ -138,7 +138,7 @@ fn over_range<'a>(
         Exp::Range(first, step, last) => match step {
             Some(_) => over_steps(alloc, site, exp, slots, goals, helpers),
             None => {
-                let is_last = is_flat(last);
+                let is_last = is_flat(Reading::Plain, last);
                 let low = value(alloc, is_last, site, first, slots, goals, helpers)?;
                 let behind = site.behind(alloc, first)?;
                 let high = value(alloc, true, &behind, last, slots, goals, helpers)?;
@@ -175,8 +175,8 @@ fn over_steps<'a>(
     match exp {
         Exp::Range(first, step, last) => match step {
             Some(step) => {
-                let is_last = is_flat(last);
-                let is_end = is_last & is_flat(step);
+                let is_last = is_flat(Reading::Plain, last);
+                let is_end = is_last & is_flat(Reading::Plain, step);
                 let low = value(alloc, is_end, site, first, slots, goals, helpers)?;
                 let second = site.behind(alloc, first)?;
                 let by = value(alloc, is_last, &second, step, slots, goals, helpers)?;

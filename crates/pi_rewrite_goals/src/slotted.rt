@@ -1,5 +1,6 @@
 //! Values that stand in slots of their own.
 ghost use Rattle.std.specs.Prelude.{◌≡◌, ◌∷◌, ◌++◌, [], length, IfOk};
+ghost use Rattle.pi_terms.specs.Tree.{Tree, trees_of};
 ghost use Rattle.pi_core.specs.GoalTree.{GoalTree};
 ghost use Rattle.pi_effects.specs.Inner.{itself_name};
 ghost use Rattle.pi_rewrite_spec.specs.Slots.{with_value};
@@ -66,6 +67,35 @@ pub(crate) fn applied_to_three<'a>(
     args.push(two)?;
     args.push(three)?;
     let term = applied(alloc, name, &args, slots, goals)?;
+    Ok(term)
+}
+
+/// A structure of two.
+pub(crate) fn of_two(alloc: Global, name: &str, one: Term, two: Term) -> Result<Term, AllocError>
+    ensures { IfOk result (λ term. term ≡ Tree.comp name.now (trees_of (one ∷ two ∷ []))) }
+{
+    let mut args = Vec::new(alloc);
+    args.push(one)?;
+    args.push(two)?;
+    let term = Term::comp(alloc, name, &args)?;
+    Ok(term)
+}
+
+/// A structure of three.
+pub(crate) fn of_three(
+    alloc: Global,
+    name: &str,
+    one: Term,
+    two: Term,
+    three: Term,
+) -> Result<Term, AllocError>
+    ensures { IfOk result (λ term. term ≡ Tree.comp name.now (trees_of (one ∷ two ∷ three ∷ []))) }
+{
+    let mut args = Vec::new(alloc);
+    args.push(one)?;
+    args.push(two)?;
+    args.push(three)?;
+    let term = Term::comp(alloc, name, &args)?;
     Ok(term)
 }
 

@@ -11,18 +11,20 @@ ghost use Rattle.pi_rewrite_spec.specs.Written.{values_in};
 ghost use Rattle.pi_rewrite_spec.specs.Helpers.{all_helpers};
 ghost use Rattle.pi_rewrite_sites.specs.SiteOf.{site_of};
 ghost use Rattle.pi_rewrite_loops.specs.Parts.{IsValue};
-ghost use Rattle.pi_rewrite_goals.specs.Lowering.{With, Gives, so_far};
+ghost use Rattle.pi_rewrite_goals.specs.Lowering.{With, GivesAs, Gives, so_far};
+ghost use Rattle.pi_meaning.specs.OverNames.Forms.{ranged as in_range};
+ghost use Rattle.pi_rewrite_slots.specs.ReadAs.{reading_of};
 ghost use Rattle.pi_rewrite_goals.specs.Shapes.{IsList, IsIndex, IsSpan, IsStepped, IsCollected};
 ghost use Rattle.pi_rewrite_goals.specs.Opening.{IsGathering};
 ghost use Rattle.pi_rewrite_loops.specs.Helpers.{lowered};
 
-use crate::slotted::{applied_to_three, applied_to_two};
+use crate::slotted::{applied_to_three, applied_to_two, of_three, of_two};
 use crate::units::open_units;
 use crate::values::{no_value, value, values};
 use crate::whole::{Comprehension, begin_comprehension, end_comprehension};
 use pi_core::{CoreGoal, CorePred};
 use pi_rewrite_sites::Site;
-use pi_rewrite_slots::{Slots, is_flat, list_onto};
+use pi_rewrite_slots::{Reading, Slots, is_flat, list_onto};
 use pi_syntax::Exp;
 use pi_terms::Term;
 use std::alloc::{AllocError, Global};
@@ -130,7 +132,7 @@ fn begins_flat(exps: &[Exp]) -> bool
     if exps.is_empty() {
         return false;
     }
-    is_flat(&exps[0])
+    is_flat(Reading::Plain, &exps[0])
 }
 
 /// A value that is indexed by one place after the other, from a site that goes on.
@@ -158,9 +160,88 @@ fn indexed_by<'a>(
     Ok(item)
 }
 
-/// A range, which is built.
+/// A range that is read so: it may stay as one.
 #[cycle(lowering)]
-pub(crate) fn ranged<'a>(
+pub(crate) fn read_range<'a>(
+    alloc: Global,
+    reading: Reading,
+    site: &Site<'a>,
+    exp: &'a Exp,
+    slots: &mut Slots<'a>,
+    goals: &mut Vec<CoreGoal>,
+    helpers: &mut Vec<CorePred>,
+) -> Result<Term, AllocError>
+    ensures { IfOk result (λ term. IsSpan exp.now →
+        GivesAs (reading_of reading) (site_of site.now) (exp_tree exp.now) term
+        (so_far slots.old goals.old.items helpers.old.items) (so_far slots.new goals.new.items helpers.new.items)) }
+{
+    if reading.is_ranged() {
+        return kept_range(alloc, site, exp, slots, goals, helpers);
+    }
+    ranged(alloc, site, exp, slots, goals, helpers)
+}
+
+/// A range that stays as one.
+#[cycle(lowering)]
+fn kept_range<'a>(
+    alloc: Global,
+    site: &Site<'a>,
+    exp: &'a Exp,
+    slots: &mut Slots<'a>,
+    goals: &mut Vec<CoreGoal>,
+    helpers: &mut Vec<CorePred>,
+) -> Result<Term, AllocError>
+    ensures { IfOk result (λ term. IsSpan exp.now →
+        GivesAs in_range (site_of site.now) (exp_tree exp.now) term
+        (so_far slots.old goals.old.items helpers.old.items) (so_far slots.new goals.new.items helpers.new.items)) }
+{
+    match exp {
+        Exp::Range(first, step, last) => match step {
+            Some(_) => kept_steps(alloc, site, exp, slots, goals, helpers),
+            None => {
+                let one = value(alloc, false, site, first, slots, goals, helpers)?;
+                let behind = site.behind(alloc, first)?;
+                let two = value(alloc, false, &behind, last, slots, goals, helpers)?;
+                of_two(alloc, "..", one, two)
+            }
+        },
+        _ => no_value(alloc, goals),
+    }
+}
+
+/// A range with a step that stays as one.
+#[cycle(lowering)]
+fn kept_steps<'a>(
+    alloc: Global,
+    site: &Site<'a>,
+    exp: &'a Exp,
+    slots: &mut Slots<'a>,
+    goals: &mut Vec<CoreGoal>,
+    helpers: &mut Vec<CorePred>,
+) -> Result<Term, AllocError>
+    ensures { IfOk result (λ term. IsStepped exp.now →
+        GivesAs in_range (site_of site.now) (exp_tree exp.now) term
+        (so_far slots.old goals.old.items helpers.old.items) (so_far slots.new goals.new.items helpers.new.items)) }
+{
+    match exp {
+        Exp::Range(first, step, last) => match step {
+            Some(step) => {
+                let one = value(alloc, false, site, first, slots, goals, helpers)?;
+                let second = site.behind(alloc, first)?;
+                let two = value(alloc, false, &second, step, slots, goals, helpers)?;
+                let third = second.behind(alloc, step)?;
+                let three = value(alloc, false, &third, last, slots, goals, helpers)?;
+                of_three(alloc, "..", one, two, three)
+            }
+            None => no_value(alloc, goals),
+        },
+        _ => no_value(alloc, goals),
+    }
+}
+
+/// A range that is built.
+#[cycle(lowering)]
+fn ranged<'a>(
     alloc: Global,
     site: &Site<'a>,
     exp: &'a Exp,
@@ -176,7 +257,7 @@ pub(crate) fn ranged<'a>(
         Exp::Range(first, step, last) => match step {
             Some(_) => stepped(alloc, site, exp, slots, goals, helpers),
             None => {
-                let is_last = is_flat(last);
+                let is_last = is_flat(Reading::Plain, last);
                 let one = value(alloc, is_last, site, first, slots, goals, helpers)?;
                 let behind = site.behind(alloc, first)?;
                 let two = value(alloc, true, &behind, last, slots, goals, helpers)?;
@@ -204,8 +285,8 @@ fn stepped<'a>(
     match exp {
         Exp::Range(first, step, last) => match step {
             Some(step) => {
-                let is_last = is_flat(last);
-                let is_end = is_last & is_flat(step);
+                let is_last = is_flat(Reading::Plain, last);
+                let is_end = is_last & is_flat(Reading::Plain, step);
                 let one = value(alloc, is_end, site, first, slots, goals, helpers)?;
                 let second = site.behind(alloc, first)?;
                 let two = value(alloc, is_last, &second, step, slots, goals, helpers)?;

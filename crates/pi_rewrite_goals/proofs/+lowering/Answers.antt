@@ -1,5 +1,5 @@
 -- Each kind of goal and expression by its lemma.
-use Rattle.std.specs.Prelude.{◌&&◌, Some, map}
+use Rattle.std.specs.Prelude.{Bool, true, ◌&&◌, Some, map}
 use Rattle.std.proofs.Common.{◌≡◌, ◌+◌, [], ◌++◌, length, drop, refl, sym, ◌∙◌, ap, arith, rules}
 use Rattle.std.proofs.lemmas.Result.{IfOk-weaker}
 use Rattle.pi_core.specs.GoalTree.{GoalTree}
@@ -8,11 +8,12 @@ use Rattle.pi_syntax.specs.ExpTree.{exp_tree}
 use Rattle.pi_syntax.specs.ExpLists.{exps_of}
 use Rattle.pi_syntax.specs.declared.exp.Exp as e
 use Rattle.pi_meaning.specs.OverNames.Texts.{places, places_all, places_of_branches}
-use Rattle.pi_rewrite_spec.specs.Values.{is_flat}
-use Rattle.pi_meaning.specs.OverNames.Forms.{form_of}
+use Rattle.pi_rewrite_spec.specs.Values.{stays, is_flat}
+use Rattle.pi_meaning.specs.OverNames.Forms.{plain, ranged, form_of}
+use Rattle.pi_rewrite_slots.specs.ReadAs.{reading_of, readings_of}
 use Rattle.pi_rewrite_spec.specs.Goals.{begins_flat, either_of, indexed_by}
 use Rattle.pi_rewrite_spec.specs.Sites.{helpers_in_all, helpers_in_branches, behind_site, behind_exp, inside}
-use Rattle.pi_rewrite_spec.specs.Written.{made, goal_of, all_of}
+use Rattle.pi_rewrite_spec.specs.Written.{made_as, goal_of, all_of}
 use Rattle.pi_rewrite_spec.specs.Helpers.{value_helpers, all_helpers, goal_helpers, conjunct_helpers, branch_helpers}
 use Rattle.pi_rewrite_slots.specs.Branches.{branches_in}
 use Rattle.pi_rewrite_sites.specs.SiteOf.{site_of}
@@ -20,7 +21,7 @@ use Rattle.pi_rewrite_slots.specs.Indexed.{names_in}
 use Rattle.pi_rewrite_loops.specs.Helpers.{loop_of, ending_of, lowered}
 use Rattle.pi_rewrite_goals.proofs.LoopLemmas.{while-whole, do-whole}
 use Rattle.pi_rewrite_sites.proofs.NowTrees.{foreach-now, collect-now, while-now, do-now, atom-now, onto-now, list-now, array-now, call-now, index-now, range-now, range_by-now, and-now, or-now, arrow-now, if_then-now, if_else-now}
-use Rattle.pi_rewrite_goals.specs.Lowering.{value_of, call_as_goal, call_as_value, call_goal_helpers, call_value_helpers, values_of}
+use Rattle.pi_rewrite_goals.specs.Lowering.{value_of, call_as_goal, call_as_value, call_goal_helpers, call_value_helpers, values_as}
 use Rattle.pi_rewrite_goals.specs.Calls.{HasCount, IsForm, assigned_to, atom_tree}
 use Rattle.pi_rewrite_goals.specs.Joined.{closed}
 use Rattle.pi_rewrite_goals.specs.declared.calls.CallForm.TheVariants.{Catch}
@@ -35,7 +36,7 @@ use Rattle.pi_rewrite_goals.proofs.PutLemmas.{put-as-made}
 use Rattle.pi_rewrite_goals.proofs.NeverLemmas.{never-var, never-int, never-str, never-list, never-array, never-quote, never-index, never-range, never-at, never-collect, never-arrow, idle-var, idle-int, idle-str, idle-list, idle-array, idle-quote, idle-index, idle-range, idle-at, idle-collect}
 use Rattle.pi_rewrite_goals.proofs.AssignLemmas.{assigned-call, assigned-value}
 use Rattle.pi_rewrite_goals.proofs.BranchLemmas.{no-arrow, arrow-branch, goal-branch, branches-none, branches-more, branches-end, conditions-none, conditions-more, conditions-end}
-use Rattle.pi_rewrite_goals.proofs.MadeLemmas.{put-made_onto, put-made_list, put-made_array, made-call, put-made_index, put-made_range, put-made_range_by, flip-and, no_value-as, none-var, none-int, none-atom, none-str, none-quote, none-at, none-and, none-or, none-arrow, none-if, none-foreach, none-while, none-do_while, bare-var, bare-int, bare-atom, bare-str, bare-quote, bare-at, bare-and, bare-or, bare-arrow, bare-if, bare-foreach, bare-while, bare-do_while, put-call_found, put-call_counted, put-call_applied}
+use Rattle.pi_rewrite_goals.proofs.MadeLemmas.{put-made_onto, put-made_list, put-made_array, put-made_index, put-made_range, put-made_range_by, flip-and, gives-read, read-array, read-list, read-index, read-collect, read-kept, read-built, read-function, put-structure, put-kept_range, put-kept_steps, helpers-structure, no_value-as, none-var, none-int, none-atom, none-str, none-quote, none-at, none-and, none-or, none-arrow, none-if, none-foreach, none-while, none-do_while, bare-var, bare-int, bare-atom, bare-str, bare-quote, bare-at, bare-and, bare-or, bare-arrow, bare-if, bare-foreach, bare-while, bare-do_while, put-call_found, put-call_counted, put-call_applied}
 use Rattle.pi_rewrite_goals.specs.Planned.{inner_in}
 use Rattle.pi_rewrite_goals.proofs.OpenLemmas.{none-open}
 use Rattle.pi_rewrite_goals.proofs.UnitLemmas.{opens-test, opens-iterator, units-more, units-end, foreach-whole, collect-whole}
@@ -49,37 +50,37 @@ use Rattle.pi_rewrite_goals.proofs.OverLemmas.{not-range, over-collection, over-
 use Rattle.pi_rewrite_goals.proofs.ArgumentLemmas.{GoesOverNone, none-found, no-call, not-call, few-arguments, two-first}
 use Rattle.pi_rewrite_goals.proofs.+lowering.Goals as goal
 
-pub values::value-returns-then-is_flat : goal.values::value-returns-then-is_flat
-values::value-returns-then-is_flat t c = IfOk-weaker c.flat_value.result _ _ (λ term so.
+pub values::value_as-returns-then-is_flat : goal.values::value_as-returns-then-is_flat
+values::value_as-returns-then-is_flat t c = IfOk-weaker c.flat_value.result _ _ (λ term so.
     record {
-      is = place-flat c.args.is_last (site_of c.args.site.now) (exp_tree c.args.exp.now) c.args.slots.now c.args.goals.now.items c.flat_value.new.goals.items term c.flat_value.new.slots (sym c.is_flat.ensures ∙ c.if-is_flat.true) so;
-      helpers = no-helpers (map pred_tree c.args.helpers.now.items) (value_helpers (site_of c.args.site.now) (exp_tree c.args.exp.now)) (flat-helpers (site_of c.args.site.now) (exp_tree c.args.exp.now) (sym c.is_flat.ensures ∙ c.if-is_flat.true));
+      is = place-flat (reading_of c.args.reading) c.args.is_last (site_of c.args.site.now) (exp_tree c.args.exp.now) c.args.slots.now c.args.goals.now.items c.flat_value.new.goals.items term c.flat_value.new.slots (sym c.is_flat.ensures ∙ c.if-is_flat.true) so;
+      helpers = no-helpers (map pred_tree c.args.helpers.now.items) (value_helpers (site_of c.args.site.now) (exp_tree c.args.exp.now)) (flat-helpers (site_of c.args.site.now) (reading_of c.args.reading) (exp_tree c.args.exp.now) (sym c.is_flat.ensures ∙ c.if-is_flat.true));
     }) c.flat_value.ensures
 
-pub values::value-returns : goal.values::value-returns
-values::value-returns t c = IfOk-weaker c.made.result _ _ (λ term so.
+pub values::value_as-returns : goal.values::value_as-returns
+values::value_as-returns t c = IfOk-weaker c.made.result _ _ (λ term so.
     record {
-      is = place-made c.args.is_last (site_of c.args.site.now) (exp_tree c.args.exp.now) c.args.slots.now c.args.goals.now.items c.made.new.goals.items term c.made.new.slots (sym c.is_flat.ensures ∙ c.if-is_flat.false) so.is;
+      is = place-made (reading_of c.args.reading) c.args.is_last (site_of c.args.site.now) (exp_tree c.args.exp.now) c.args.slots.now c.args.goals.now.items c.made.new.goals.items term c.made.new.slots (sym c.is_flat.ensures ∙ c.if-is_flat.false) so.is;
       helpers = so.helpers;
     }) c.made.ensures
 
-pub values::values-loop-i-init : goal.values::values-loop-i-init
-values::values-loop-i-init t c = record {
-  is = values-none c.args.are_parts (site_of c.args.site.now) (site_of c.in_ok-here.here) c.args.exps.now c.args.slots.now c.args.goals.now.items c.new-terms.result.items c.in_ok-here.ensures c.new-terms.ensures.items;
+pub values::values_as-loop-i-init : goal.values::values_as-loop-i-init
+values::values_as-loop-i-init t c = record {
+  is = values-none c.args.are_parts (site_of c.args.site.now) (site_of c.in_ok-here.here) (readings_of c.args.readings) c.args.exps.now c.args.slots.now c.args.goals.now.items c.new-terms.result.items c.in_ok-here.ensures c.new-terms.ensures.items;
   helpers = all-start (site_of c.args.site.now) (site_of c.in_ok-here.here) c.args.exps.now (map pred_tree c.args.helpers.now.items) c.in_ok-here.ensures;
 }
 
-pub values::values-loop-i-preserved : goal.values::values-loop-i-preserved
-values::values-loop-i-preserved t c = record {
-  is = values-step c.args.are_parts (site_of c.loop-i.here) (site_of c.pass.new.self) c.args.exps.now c.loop-i.i c.index-exps-i.result c.is_behind-is_last.result (values_of c.args.are_parts (site_of c.args.site.now) (exps_of c.args.exps.now) c.args.slots.now) c.loop-i.slots c.value.new.slots c.args.goals.now.items c.loop-i.goals.items c.value.new.goals.items c.loop-i.terms.items c.push.new.self.items c.in_ok-term.term
-      c.loop-i-test.true c.index-exps-i.is c.in_ok-pass.ensures (c.is_behind-is_last.ensures c.args.exps.now c.calls_end-end.ensures) c.in_ok-term.ensures.is c.in_ok-push.ensures.items c.loop-i.invariant.is;
-  helpers = going-more (map pred_tree c.args.helpers.now.items) (map pred_tree c.loop-i.helpers.items) (map pred_tree c.value.new.helpers.items) (all_helpers (site_of c.args.site.now) (exps_of c.args.exps.now)) (all_helpers (site_of c.loop-i.here) (exps_of (drop c.loop-i.i c.args.exps.now))) (value_helpers (site_of c.loop-i.here) (exp_tree c.index-exps-i.result)) (all_helpers (site_of c.pass.new.self) (exps_of (drop (c.loop-i.i + 1) c.args.exps.now)))
+pub values::values_as-loop-i-preserved : goal.values::values_as-loop-i-preserved
+values::values_as-loop-i-preserved t c = record {
+  is = values-step c.args.are_parts (site_of c.loop-i.here) (site_of c.pass.new.self) (readings_of c.args.readings) c.args.exps.now c.loop-i.i c.index-exps-i.result (reading_of c.at-reading.result) c.is_behind-is_last.result (values_as c.args.are_parts (site_of c.args.site.now) (readings_of c.args.readings) (exps_of c.args.exps.now) c.args.slots.now) c.loop-i.slots c.value_as.new.slots c.args.goals.now.items c.loop-i.goals.items c.value_as.new.goals.items c.loop-i.terms.items c.push.new.self.items c.in_ok-term.term
+      c.loop-i-test.true c.index-exps-i.is c.at-reading.ensures c.in_ok-pass.ensures (c.is_behind-is_last.ensures (readings_of c.args.readings) c.args.exps.now c.calls_end-end.ensures) c.in_ok-term.ensures.is c.in_ok-push.ensures.items c.loop-i.invariant.is;
+  helpers = going-more (map pred_tree c.args.helpers.now.items) (map pred_tree c.loop-i.helpers.items) (map pred_tree c.value_as.new.helpers.items) (all_helpers (site_of c.args.site.now) (exps_of c.args.exps.now)) (all_helpers (site_of c.loop-i.here) (exps_of (drop c.loop-i.i c.args.exps.now))) (value_helpers (site_of c.loop-i.here) (exp_tree c.index-exps-i.result)) (all_helpers (site_of c.pass.new.self) (exps_of (drop (c.loop-i.i + 1) c.args.exps.now)))
       (all-next (site_of c.loop-i.here) (site_of c.pass.new.self) c.args.exps.now c.loop-i.i c.index-exps-i.result c.loop-i-test.true c.index-exps-i.is c.in_ok-pass.ensures) c.in_ok-term.ensures.helpers c.loop-i.invariant.helpers;
 }
 
-pub values::values-returns : goal.values::values-returns
-values::values-returns t c = record {
-  is = values-last c.args.are_parts (site_of c.loop-i.here) c.args.exps.now c.loop-i.i (values_of c.args.are_parts (site_of c.args.site.now) (exps_of c.args.exps.now) c.args.slots.now) c.loop-i.slots c.args.goals.now.items c.loop-i.goals.items c.loop-i.terms.items c.loop-i-test.false c.loop-i.invariant.is;
+pub values::values_as-returns : goal.values::values_as-returns
+values::values_as-returns t c = record {
+  is = values-last c.args.are_parts (site_of c.loop-i.here) (readings_of c.args.readings) c.args.exps.now c.loop-i.i (values_as c.args.are_parts (site_of c.args.site.now) (readings_of c.args.readings) (exps_of c.args.exps.now) c.args.slots.now) c.loop-i.slots c.args.goals.now.items c.loop-i.goals.items c.loop-i.terms.items c.loop-i-test.false c.loop-i.invariant.is;
   helpers = going-end (map pred_tree c.args.helpers.now.items) (map pred_tree c.loop-i.helpers.items) (all_helpers (site_of c.args.site.now) (exps_of c.args.exps.now)) (all_helpers (site_of c.loop-i.here) (exps_of (drop c.loop-i.i c.args.exps.now))) (all-none (site_of c.loop-i.here) c.args.exps.now c.loop-i.i c.loop-i-test.false) c.loop-i.invariant.helpers;
 }
 
@@ -140,7 +141,7 @@ structures::listed-returns-in_ok-rest-in-Some t c = IfOk-weaker c.list_onto.resu
 
 pub structures::listed-returns-in-None : goal.structures::listed-returns-in-None
 structures::listed-returns-in-None t c = IfOk-weaker c.list_of.result _ _ (λ list so f.
-    gives-as (site_of c.args.site.now) (exp_tree c.args.exp.now) (ExpTree.list (exps_of c.as_slice-in-None.result.now)) c.args.slots.now c.list_of.new.slots c.args.goals.now.items c.list_of.new.goals.items list c.args.helpers.now.items c.list_of.new.helpers.items
+    gives-as plain (site_of c.args.site.now) (exp_tree c.args.exp.now) (ExpTree.list (exps_of c.as_slice-in-None.result.now)) c.args.slots.now c.list_of.new.slots c.args.goals.now.items c.list_of.new.goals.items list c.args.helpers.now.items c.list_of.new.helpers.items
     (list-now c.args.exp.now c.in-List.items c.in-List.tail c.as_slice-in-None.result.now c.in-List.is c.in-None.is c.as_slice-in-None.ensures.value) so) c.list_of.ensures
 
 pub structures::listed-returns-in_default : goal.structures::listed-returns-in_default
@@ -155,20 +156,102 @@ structures::list_of-returns t c = IfOk-weaker c.list_onto.result _ _ (λ list so
 
 pub values::made-returns-in-Array : goal.values::made-returns-in-Array
 values::made-returns-in-Array t c = IfOk-weaker c.array_of.result _ _ (λ array so.
-    gives-as (site_of c.args.site.now) (exp_tree c.args.exp.now) (ExpTree.array (exps_of c.as_slice.result.now)) c.args.slots.now c.array_of.new.slots c.args.goals.now.items c.array_of.new.goals.items array c.args.helpers.now.items c.array_of.new.helpers.items
-    (array-now c.args.exp.now c.in-Array.items c.as_slice.result.now c.in-Array.is c.as_slice.ensures.value) so) c.array_of.ensures
+    let is : exp_tree c.args.exp.now ≡ ExpTree.array (exps_of c.as_slice.result.now) = array-now c.args.exp.now c.in-Array.items c.as_slice.result.now c.in-Array.is c.as_slice.ensures.value in
+    gives-read (reading_of c.args.reading) plain (site_of c.args.site.now) (exp_tree c.args.exp.now) c.args.slots.now c.array_of.new.slots c.args.goals.now.items c.array_of.new.goals.items array c.args.helpers.now.items c.array_of.new.helpers.items
+    (read-array (reading_of c.args.reading) (site_of c.args.site.now) (exp_tree c.args.exp.now) (exps_of c.as_slice.result.now) c.args.slots.now is)
+    (gives-as plain (site_of c.args.site.now) (exp_tree c.args.exp.now) (ExpTree.array (exps_of c.as_slice.result.now)) c.args.slots.now c.array_of.new.slots c.args.goals.now.items c.array_of.new.goals.items array c.args.helpers.now.items c.array_of.new.helpers.items is so)) c.array_of.ensures
 
 pub values::made-returns-in-List : goal.values::made-returns-in-List
-values::made-returns-in-List t c = IfOk-weaker c.listed.result _ _ (λ list so. so (record { items = c.in-List.field-0; tail = c.in-List.field-1; is = c.in-List.is })) c.listed.ensures
+values::made-returns-in-List t c = IfOk-weaker c.listed.result _ _ (λ list so.
+    gives-read (reading_of c.args.reading) plain (site_of c.args.site.now) (exp_tree c.args.exp.now) c.args.slots.now c.listed.new.slots c.args.goals.now.items c.listed.new.goals.items list c.args.helpers.now.items c.listed.new.helpers.items
+    (read-list (reading_of c.args.reading) (site_of c.args.site.now) c.args.exp.now c.in-List.field-0 c.in-List.field-1 c.args.slots.now c.in-List.is)
+    (so (record { items = c.in-List.field-0; tail = c.in-List.field-1; is = c.in-List.is }))) c.listed.ensures
 
 pub values::made-returns-in-Index : goal.values::made-returns-in-Index
-values::made-returns-in-Index t c = IfOk-weaker c.indexed.result _ _ (λ item so. so (record { whole = c.in-Index.field-0; places = c.in-Index.field-1; is = c.in-Index.is })) c.indexed.ensures
+values::made-returns-in-Index t c = IfOk-weaker c.indexed.result _ _ (λ item so.
+    gives-read (reading_of c.args.reading) plain (site_of c.args.site.now) (exp_tree c.args.exp.now) c.args.slots.now c.indexed.new.slots c.args.goals.now.items c.indexed.new.goals.items item c.args.helpers.now.items c.indexed.new.helpers.items
+    (read-index (reading_of c.args.reading) (site_of c.args.site.now) c.args.exp.now c.in-Index.field-0 c.in-Index.field-1 c.args.slots.now c.in-Index.is)
+    (so (record { whole = c.in-Index.field-0; places = c.in-Index.field-1; is = c.in-Index.is }))) c.indexed.ensures
 
 pub values::made-returns-in-Range : goal.values::made-returns-in-Range
-values::made-returns-in-Range t c = IfOk-weaker c.ranged.result _ _ (λ range so. so (record { low = c.in-Range.field-0; step = c.in-Range.field-1; high = c.in-Range.field-2; is = c.in-Range.is })) c.ranged.ensures
+values::made-returns-in-Range t c = IfOk-weaker c.read_range.result _ _ (λ range so. so (record { low = c.in-Range.field-0; step = c.in-Range.field-1; high = c.in-Range.field-2; is = c.in-Range.is })) c.read_range.ensures
 
 pub values::made-returns-in-Collect : goal.values::made-returns-in-Collect
-values::made-returns-in-Collect t c = IfOk-weaker c.collected.result _ _ (λ list so. so (record { is_array = c.in-Collect.field-0; item = c.in-Collect.field-1; units = c.in-Collect.field-2; is = c.in-Collect.is })) c.collected.ensures
+values::made-returns-in-Collect t c = IfOk-weaker c.collected.result _ _ (λ list so.
+    gives-read (reading_of c.args.reading) plain (site_of c.args.site.now) (exp_tree c.args.exp.now) c.args.slots.now c.collected.new.slots c.args.goals.now.items c.collected.new.goals.items list c.args.helpers.now.items c.collected.new.helpers.items
+    (read-collect (reading_of c.args.reading) (site_of c.args.site.now) c.args.exp.now c.in-Collect.field-0 c.in-Collect.field-1 c.in-Collect.field-2 c.args.slots.now c.in-Collect.is)
+    (so (record { is_array = c.in-Collect.field-0; item = c.in-Collect.field-1; units = c.in-Collect.field-2; is = c.in-Collect.is }))) c.collected.ensures
+
+-- a range, by whether it stays
+pub structures::read_range-returns-then-is_ranged : goal.structures::read_range-returns-then-is_ranged
+structures::read_range-returns-then-is_ranged t c = IfOk-weaker c.kept_range.result _ _ (λ range so f.
+    gives-read (reading_of c.args.reading) ranged (site_of c.args.site.now) (exp_tree c.args.exp.now) c.args.slots.now c.kept_range.new.slots c.args.goals.now.items c.kept_range.new.goals.items range c.args.helpers.now.items c.kept_range.new.helpers.items
+    (read-kept (reading_of c.args.reading) (site_of c.args.site.now) c.args.exp.now c.args.slots.now (sym c.is_ranged.ensures ∙ c.if-is_ranged.true)) (so f)) c.kept_range.ensures
+
+pub structures::read_range-returns : goal.structures::read_range-returns
+structures::read_range-returns t c = IfOk-weaker c.ranged.result _ _ (λ range so f.
+    gives-read (reading_of c.args.reading) plain (site_of c.args.site.now) (exp_tree c.args.exp.now) c.args.slots.now c.ranged.new.slots c.args.goals.now.items c.ranged.new.goals.items range c.args.helpers.now.items c.ranged.new.helpers.items
+    (read-built (reading_of c.args.reading) (site_of c.args.site.now) c.args.exp.now c.args.slots.now (sym c.is_ranged.ensures ∙ c.if-is_ranged.false) f) (so f)) c.ranged.ensures
+
+pub structures::kept_steps-returns-in_ok-three-in-Some : goal.structures::kept_steps-returns-in_ok-three-in-Some
+structures::kept_steps-returns-in_ok-three-in-Some t c = IfOk-weaker c.of_three.result _ _ (λ range so f.
+    let is : exp_tree c.args.exp.now ≡ ExpTree.range_by (exp_tree c.deref.result.now) (exp_tree c.deref-in-Some-2.result.now) (exp_tree c.deref-in-Some-4.result.now) =
+    range_by-now c.args.exp.now c.in-Range.first c.in-Range.step c.in-Range.last c.in-Some.step c.deref.result.now c.deref-in-Some-2.result.now c.deref-in-Some-4.result.now c.in-Range.is c.in-Some.is c.deref.ensures c.deref-in-Some-2.ensures c.deref-in-Some-4.ensures in
+    let first : site_of c.in_ok-second-in-Some.second ≡ behind_exp (site_of c.args.site.now) (exp_tree c.deref.result.now) = c.in_ok-second-in-Some.ensures ∙ ap (λ z. behind_exp (site_of c.args.site.now) (exp_tree z)) (c.deref-in-Some.ensures ∙ sym c.deref.ensures) in
+    let second : site_of c.in_ok-third-in-Some.third ≡ behind_exp (site_of c.in_ok-second-in-Some.second) (exp_tree c.deref-in-Some-2.result.now) =
+    c.in_ok-third-in-Some.ensures ∙ ap (λ z. behind_exp (site_of c.in_ok-second-in-Some.second) (exp_tree z)) (c.deref-in-Some-3.ensures ∙ sym c.deref-in-Some-2.ensures) in
+    record {
+      is = put-kept_steps (site_of c.args.site.now) (site_of c.in_ok-second-in-Some.second) (site_of c.in_ok-third-in-Some.third) (exp_tree c.args.exp.now) (exp_tree c.deref.result.now) (exp_tree c.deref-in-Some-2.result.now) (exp_tree c.deref-in-Some-4.result.now) c.args.slots.now c.value.new.slots c.value-in-Some.new.slots c.value-in-Some-2.new.slots
+          c.args.goals.now.items c.value.new.goals.items c.value-in-Some.new.goals.items c.value-in-Some-2.new.goals.items c.in_ok-one-in-Some.one c.in_ok-two-in-Some.two c.in_ok-three-in-Some.three range is first second c.in_ok-one-in-Some.ensures.is c.in_ok-two-in-Some.ensures.is c.in_ok-three-in-Some.ensures.is so;
+      helpers = three-helpers (map pred_tree c.args.helpers.now.items) (map pred_tree c.value.new.helpers.items) (map pred_tree c.value-in-Some.new.helpers.items) (map pred_tree c.value-in-Some-2.new.helpers.items) (value_helpers (site_of c.args.site.now) (exp_tree c.deref.result.now))
+          (value_helpers (site_of c.in_ok-second-in-Some.second) (exp_tree c.deref-in-Some-2.result.now)) (value_helpers (site_of c.in_ok-third-in-Some.third) (exp_tree c.deref-in-Some-4.result.now)) (value_helpers (site_of c.args.site.now) (exp_tree c.args.exp.now))
+          (helpers-range_by (site_of c.args.site.now) (site_of c.in_ok-second-in-Some.second) (site_of c.in_ok-third-in-Some.third) (exp_tree c.args.exp.now) (exp_tree c.deref.result.now) (exp_tree c.deref-in-Some-2.result.now) (exp_tree c.deref-in-Some-4.result.now) is first second)
+          c.in_ok-one-in-Some.ensures.helpers c.in_ok-two-in-Some.ensures.helpers c.in_ok-three-in-Some.ensures.helpers;
+    }) c.of_three.ensures
+
+pub structures::kept_steps-returns-in-None : goal.structures::kept_steps-returns-in-None
+structures::kept_steps-returns-in-None t c = IfOk-weaker c.no_value.result _ _ (λ _ so f. absurd (not-stepped c.args.exp.now c.in-Range.first c.in-Range.step c.in-Range.last c.in-Range.is c.in-None.is f)) c.no_value.ensures.is
+
+pub structures::kept_steps-returns-in_default : goal.structures::kept_steps-returns-in_default
+structures::kept_steps-returns-in_default t c = IfOk-weaker c.no_value-in_default.result _ _ (λ _ so f. absurd (c.in_default.not-Range f.low (Some f.step) f.high f.is)) c.no_value-in_default.ensures.is
+
+pub structures::kept_range-returns-in_ok-two-in-None : goal.structures::kept_range-returns-in_ok-two-in-None
+structures::kept_range-returns-in_ok-two-in-None t c = IfOk-weaker c.of_two.result _ _ (λ range so f.
+    let is : exp_tree c.args.exp.now ≡ ExpTree.range (exp_tree c.deref.result.now) (exp_tree c.deref-in-None-2.result.now) =
+    range-now c.args.exp.now c.in-Range.first c.in-Range.step c.in-Range.last c.deref.result.now c.deref-in-None-2.result.now c.in-Range.is c.in-None.is c.deref.ensures c.deref-in-None-2.ensures in
+    let go : site_of c.in_ok-behind-in-None.behind ≡ behind_exp (site_of c.args.site.now) (exp_tree c.deref.result.now) = c.in_ok-behind-in-None.ensures ∙ ap (λ z. behind_exp (site_of c.args.site.now) (exp_tree z)) (c.deref-in-None.ensures ∙ sym c.deref.ensures) in
+    record {
+      is = put-kept_range (site_of c.args.site.now) (site_of c.in_ok-behind-in-None.behind) (exp_tree c.args.exp.now) (exp_tree c.deref.result.now) (exp_tree c.deref-in-None-2.result.now) c.args.slots.now c.value.new.slots c.value-in-None.new.slots c.args.goals.now.items c.value.new.goals.items c.value-in-None.new.goals.items
+          c.in_ok-one-in-None.one c.in_ok-two-in-None.two range is go c.in_ok-one-in-None.ensures.is c.in_ok-two-in-None.ensures.is so;
+      helpers = two-helpers (map pred_tree c.args.helpers.now.items) (map pred_tree c.value.new.helpers.items) (map pred_tree c.value-in-None.new.helpers.items) (value_helpers (site_of c.args.site.now) (exp_tree c.deref.result.now))
+          (value_helpers (site_of c.in_ok-behind-in-None.behind) (exp_tree c.deref-in-None-2.result.now)) (value_helpers (site_of c.args.site.now) (exp_tree c.args.exp.now))
+          (helpers-range (site_of c.args.site.now) (site_of c.in_ok-behind-in-None.behind) (exp_tree c.args.exp.now) (exp_tree c.deref.result.now) (exp_tree c.deref-in-None-2.result.now) is go) c.in_ok-one-in-None.ensures.helpers c.in_ok-two-in-None.ensures.helpers;
+    }) c.of_two.ensures
+
+pub structures::kept_range-returns-in-Some : goal.structures::kept_range-returns-in-Some
+structures::kept_range-returns-in-Some t c = IfOk-weaker c.kept_steps.result _ _ (λ range so f. so (record { low = c.in-Range.first; step = c.in-Some.field-0; high = c.in-Range.last; is = c.in-Range.is ∙ ap (λ o. e.Range c.in-Range.first o c.in-Range.last) c.in-Some.is })) c.kept_steps.ensures
+
+pub structures::kept_range-returns-in_default : goal.structures::kept_range-returns-in_default
+structures::kept_range-returns-in_default t c = IfOk-weaker c.no_value.result _ _ (λ _ so f. absurd (c.in_default.not-Range f.low f.step f.high f.is)) c.no_value.ensures.is
+
+-- a call, by whether it stays
+pub calls::read_call-returns-then-not-stays : goal.calls::read_call-returns-then-not-stays
+calls::read_call-returns-then-not-stays t c = IfOk-weaker c.call_value.result _ _ (λ value so.
+    record {
+      is = value-as (made_as (site_of c.args.site.now) (reading_of c.args.reading) (ExpTree.call c.args.name.now (exps_of c.args.args.now)) c.args.slots.now) (call_as_value (site_of c.args.site.now) c.args.name.now (exps_of c.args.args.now) c.args.slots.now) c.args.goals.now.items c.call_value.new.goals.items value c.call_value.new.slots
+          (read-function (reading_of c.args.reading) (site_of c.args.site.now) c.args.name.now c.args.args.now c.args.slots.now (sym c.stays.ensures ∙ c.if-not-stays.true)) so.is;
+      helpers = same-helpers (map pred_tree c.args.helpers.now.items) (map pred_tree c.call_value.new.helpers.items) (call_value_helpers (site_of c.args.site.now) c.args.name.now (exps_of c.args.args.now)) (value_helpers (site_of c.args.site.now) (ExpTree.call c.args.name.now (exps_of c.args.args.now)))
+          (value-call-helpers (site_of c.args.site.now) (ExpTree.call c.args.name.now (exps_of c.args.args.now)) c.args.name.now c.args.name.now (exps_of c.args.args.now) refl refl) so.helpers;
+    }) c.call_value.ensures
+
+pub calls::read_call-returns : goal.calls::read_call-returns
+calls::read_call-returns t c = IfOk-weaker c.comp.result _ _ (λ term so.
+    let stay : stays (reading_of c.args.reading) c.args.name.now (length c.args.args.now) ≡ true = sym c.stays.ensures ∙ c.if-not-stays.false in
+    record {
+      is = put-structure (reading_of c.args.reading) (site_of c.args.site.now) c.args.name.now c.args.args.now (readings_of c.of_parts-readings.result) c.args.slots.now c.values_as.new.slots c.args.goals.now.items c.values_as.new.goals.items c.in_ok-parts.parts.items c.deref.result.now term stay c.of_parts-readings.ensures c.in_ok-parts.ensures.is c.deref.ensures.value so;
+      helpers = same-helpers (map pred_tree c.args.helpers.now.items) (map pred_tree c.values_as.new.helpers.items) (all_helpers (site_of c.args.site.now) (exps_of c.args.args.now)) (value_helpers (site_of c.args.site.now) (ExpTree.call c.args.name.now (exps_of c.args.args.now)))
+          (helpers-structure (reading_of c.args.reading) (site_of c.args.site.now) c.args.name.now c.args.args.now stay) c.in_ok-parts.ensures.helpers;
+    }) c.comp.ensures.ok
 
 pub structures::array_of-returns : goal.structures::array_of-returns
 structures::array_of-returns t c = IfOk-weaker c.comp.result _ _ (λ array so.
@@ -178,11 +261,10 @@ structures::array_of-returns t c = IfOk-weaker c.comp.result _ _ (λ array so.
     }) c.comp.ensures.ok
 
 pub values::made-returns-in-Call : goal.values::made-returns-in-Call
-values::made-returns-in-Call t c = IfOk-weaker c.call_value.result _ _ (λ value so.
-    record {
-      is = value-as (made (site_of c.args.site.now) (exp_tree c.args.exp.now) c.args.slots.now) (call_as_value (site_of c.args.site.now) c.as_str.result.now (exps_of c.as_slice-in-Call.result.now) c.args.slots.now) c.args.goals.now.items c.call_value.new.goals.items value c.call_value.new.slots (made-call (site_of c.args.site.now) (exp_tree c.args.exp.now) c.in-Call.name c.as_str.result.now (exps_of c.as_slice-in-Call.result.now) c.args.slots.now (call-now c.args.exp.now c.in-Call.name c.in-Call.args c.as_slice-in-Call.result.now c.in-Call.is c.as_slice-in-Call.ensures.value) c.as_str.ensures) so.is;
-      helpers = same-helpers (map pred_tree c.args.helpers.now.items) (map pred_tree c.call_value.new.helpers.items) (call_value_helpers (site_of c.args.site.now) c.as_str.result.now (exps_of c.as_slice-in-Call.result.now)) (value_helpers (site_of c.args.site.now) (exp_tree c.args.exp.now)) (value-call-helpers (site_of c.args.site.now) (exp_tree c.args.exp.now) c.in-Call.name c.as_str.result.now (exps_of c.as_slice-in-Call.result.now) (call-now c.args.exp.now c.in-Call.name c.in-Call.args c.as_slice-in-Call.result.now c.in-Call.is c.as_slice-in-Call.ensures.value) c.as_str.ensures) so.helpers;
-    }) c.call_value.ensures
+values::made-returns-in-Call t c = IfOk-weaker c.read_call.result _ _ (λ value so.
+    let is : exp_tree c.args.exp.now ≡ ExpTree.call c.as_str.result.now (exps_of c.as_slice-in-Call.result.now) =
+    call-now c.args.exp.now c.in-Call.name c.in-Call.args c.as_slice-in-Call.result.now c.in-Call.is c.as_slice-in-Call.ensures.value ∙ ap (λ n. ExpTree.call n (exps_of c.as_slice-in-Call.result.now)) (sym c.as_str.ensures) in
+    gives-as (reading_of c.args.reading) (site_of c.args.site.now) (exp_tree c.args.exp.now) (ExpTree.call c.as_str.result.now (exps_of c.as_slice-in-Call.result.now)) c.args.slots.now c.read_call.new.slots c.args.goals.now.items c.read_call.new.goals.items value c.args.helpers.now.items c.read_call.new.helpers.items is so) c.read_call.ensures
 
 pub structures::indexed-returns-in_ok-behind-in-Index : goal.structures::indexed-returns-in_ok-behind-in-Index
 structures::indexed-returns-in_ok-behind-in-Index t c = IfOk-weaker c.indexed_by.result _ _ (λ item so f.
@@ -227,43 +309,43 @@ pub structures::ranged-returns-in_default : goal.structures::ranged-returns-in_d
 structures::ranged-returns-in_default t c = IfOk-weaker c.no_value.result _ _ (λ _ so f. absurd (c.in_default.not-Range f.low f.step f.high f.is)) c.no_value.ensures.is
 
 pub values::made-returns-in-Var : goal.values::made-returns-in-Var
-values::made-returns-in-Var t c = no_value-as (site_of c.args.site.now) c.args.exp.now (e.Var c.in-Var.field-0) c.args.slots.now c.args.goals.now.items c.no_value.new.goals.items c.args.helpers.now.items c.no_value.result c.in-Var.is (none-var (site_of c.args.site.now) c.in-Var.field-0 c.args.slots.now) (bare-var (site_of c.args.site.now) c.in-Var.field-0) c.no_value.ensures.goals c.no_value.ensures.is
+values::made-returns-in-Var t c = no_value-as (reading_of c.args.reading) (site_of c.args.site.now) c.args.exp.now (e.Var c.in-Var.field-0) c.args.slots.now c.args.goals.now.items c.no_value.new.goals.items c.args.helpers.now.items c.no_value.result c.in-Var.is (none-var (reading_of c.args.reading) (site_of c.args.site.now) c.in-Var.field-0 c.args.slots.now) (bare-var (site_of c.args.site.now) c.in-Var.field-0) c.no_value.ensures.goals c.no_value.ensures.is
 
 pub values::made-returns-in-Int : goal.values::made-returns-in-Int
-values::made-returns-in-Int t c = no_value-as (site_of c.args.site.now) c.args.exp.now (e.Int c.in-Int.field-0) c.args.slots.now c.args.goals.now.items c.no_value-in-Int.new.goals.items c.args.helpers.now.items c.no_value-in-Int.result c.in-Int.is (none-int (site_of c.args.site.now) c.in-Int.field-0 c.args.slots.now) (bare-int (site_of c.args.site.now) c.in-Int.field-0) c.no_value-in-Int.ensures.goals c.no_value-in-Int.ensures.is
+values::made-returns-in-Int t c = no_value-as (reading_of c.args.reading) (site_of c.args.site.now) c.args.exp.now (e.Int c.in-Int.field-0) c.args.slots.now c.args.goals.now.items c.no_value-in-Int.new.goals.items c.args.helpers.now.items c.no_value-in-Int.result c.in-Int.is (none-int (reading_of c.args.reading) (site_of c.args.site.now) c.in-Int.field-0 c.args.slots.now) (bare-int (site_of c.args.site.now) c.in-Int.field-0) c.no_value-in-Int.ensures.goals c.no_value-in-Int.ensures.is
 
 pub values::made-returns-in-Atom : goal.values::made-returns-in-Atom
-values::made-returns-in-Atom t c = no_value-as (site_of c.args.site.now) c.args.exp.now (e.Atom c.in-Atom.field-0) c.args.slots.now c.args.goals.now.items c.no_value-in-Atom.new.goals.items c.args.helpers.now.items c.no_value-in-Atom.result c.in-Atom.is (none-atom (site_of c.args.site.now) c.in-Atom.field-0 c.args.slots.now) (bare-atom (site_of c.args.site.now) c.in-Atom.field-0) c.no_value-in-Atom.ensures.goals c.no_value-in-Atom.ensures.is
+values::made-returns-in-Atom t c = no_value-as (reading_of c.args.reading) (site_of c.args.site.now) c.args.exp.now (e.Atom c.in-Atom.field-0) c.args.slots.now c.args.goals.now.items c.no_value-in-Atom.new.goals.items c.args.helpers.now.items c.no_value-in-Atom.result c.in-Atom.is (none-atom (reading_of c.args.reading) (site_of c.args.site.now) c.in-Atom.field-0 c.args.slots.now) (bare-atom (site_of c.args.site.now) c.in-Atom.field-0) c.no_value-in-Atom.ensures.goals c.no_value-in-Atom.ensures.is
 
 pub values::made-returns-in-Str : goal.values::made-returns-in-Str
-values::made-returns-in-Str t c = no_value-as (site_of c.args.site.now) c.args.exp.now (e.Str c.in-Str.field-0) c.args.slots.now c.args.goals.now.items c.no_value-in-Str.new.goals.items c.args.helpers.now.items c.no_value-in-Str.result c.in-Str.is (none-str (site_of c.args.site.now) c.in-Str.field-0 c.args.slots.now) (bare-str (site_of c.args.site.now) c.in-Str.field-0) c.no_value-in-Str.ensures.goals c.no_value-in-Str.ensures.is
+values::made-returns-in-Str t c = no_value-as (reading_of c.args.reading) (site_of c.args.site.now) c.args.exp.now (e.Str c.in-Str.field-0) c.args.slots.now c.args.goals.now.items c.no_value-in-Str.new.goals.items c.args.helpers.now.items c.no_value-in-Str.result c.in-Str.is (none-str (reading_of c.args.reading) (site_of c.args.site.now) c.in-Str.field-0 c.args.slots.now) (bare-str (site_of c.args.site.now) c.in-Str.field-0) c.no_value-in-Str.ensures.goals c.no_value-in-Str.ensures.is
 
 pub values::made-returns-in-Quote : goal.values::made-returns-in-Quote
-values::made-returns-in-Quote t c = no_value-as (site_of c.args.site.now) c.args.exp.now (e.Quote c.in-Quote.field-0) c.args.slots.now c.args.goals.now.items c.no_value-in-Quote.new.goals.items c.args.helpers.now.items c.no_value-in-Quote.result c.in-Quote.is (none-quote (site_of c.args.site.now) c.in-Quote.field-0 c.args.slots.now) (bare-quote (site_of c.args.site.now) c.in-Quote.field-0) c.no_value-in-Quote.ensures.goals c.no_value-in-Quote.ensures.is
+values::made-returns-in-Quote t c = no_value-as (reading_of c.args.reading) (site_of c.args.site.now) c.args.exp.now (e.Quote c.in-Quote.field-0) c.args.slots.now c.args.goals.now.items c.no_value-in-Quote.new.goals.items c.args.helpers.now.items c.no_value-in-Quote.result c.in-Quote.is (none-quote (reading_of c.args.reading) (site_of c.args.site.now) c.in-Quote.field-0 c.args.slots.now) (bare-quote (site_of c.args.site.now) c.in-Quote.field-0) c.no_value-in-Quote.ensures.goals c.no_value-in-Quote.ensures.is
 
 pub values::made-returns-in-At : goal.values::made-returns-in-At
-values::made-returns-in-At t c = no_value-as (site_of c.args.site.now) c.args.exp.now (e.At c.in-At.field-0 c.in-At.field-1) c.args.slots.now c.args.goals.now.items c.no_value-in-At.new.goals.items c.args.helpers.now.items c.no_value-in-At.result c.in-At.is (none-at (site_of c.args.site.now) c.in-At.field-0 c.in-At.field-1 c.args.slots.now) (bare-at (site_of c.args.site.now) c.in-At.field-0 c.in-At.field-1) c.no_value-in-At.ensures.goals c.no_value-in-At.ensures.is
+values::made-returns-in-At t c = no_value-as (reading_of c.args.reading) (site_of c.args.site.now) c.args.exp.now (e.At c.in-At.field-0 c.in-At.field-1) c.args.slots.now c.args.goals.now.items c.no_value-in-At.new.goals.items c.args.helpers.now.items c.no_value-in-At.result c.in-At.is (none-at (reading_of c.args.reading) (site_of c.args.site.now) c.in-At.field-0 c.in-At.field-1 c.args.slots.now) (bare-at (site_of c.args.site.now) c.in-At.field-0 c.in-At.field-1) c.no_value-in-At.ensures.goals c.no_value-in-At.ensures.is
 
 pub values::made-returns-in-And : goal.values::made-returns-in-And
-values::made-returns-in-And t c = no_value-as (site_of c.args.site.now) c.args.exp.now (e.And c.in-And.field-0) c.args.slots.now c.args.goals.now.items c.no_value-in-And.new.goals.items c.args.helpers.now.items c.no_value-in-And.result c.in-And.is (none-and (site_of c.args.site.now) c.in-And.field-0 c.args.slots.now) (bare-and (site_of c.args.site.now) c.in-And.field-0) c.no_value-in-And.ensures.goals c.no_value-in-And.ensures.is
+values::made-returns-in-And t c = no_value-as (reading_of c.args.reading) (site_of c.args.site.now) c.args.exp.now (e.And c.in-And.field-0) c.args.slots.now c.args.goals.now.items c.no_value-in-And.new.goals.items c.args.helpers.now.items c.no_value-in-And.result c.in-And.is (none-and (reading_of c.args.reading) (site_of c.args.site.now) c.in-And.field-0 c.args.slots.now) (bare-and (site_of c.args.site.now) c.in-And.field-0) c.no_value-in-And.ensures.goals c.no_value-in-And.ensures.is
 
 pub values::made-returns-in-Or : goal.values::made-returns-in-Or
-values::made-returns-in-Or t c = no_value-as (site_of c.args.site.now) c.args.exp.now (e.Or c.in-Or.field-0) c.args.slots.now c.args.goals.now.items c.no_value-in-Or.new.goals.items c.args.helpers.now.items c.no_value-in-Or.result c.in-Or.is (none-or (site_of c.args.site.now) c.in-Or.field-0 c.args.slots.now) (bare-or (site_of c.args.site.now) c.in-Or.field-0) c.no_value-in-Or.ensures.goals c.no_value-in-Or.ensures.is
+values::made-returns-in-Or t c = no_value-as (reading_of c.args.reading) (site_of c.args.site.now) c.args.exp.now (e.Or c.in-Or.field-0) c.args.slots.now c.args.goals.now.items c.no_value-in-Or.new.goals.items c.args.helpers.now.items c.no_value-in-Or.result c.in-Or.is (none-or (reading_of c.args.reading) (site_of c.args.site.now) c.in-Or.field-0 c.args.slots.now) (bare-or (site_of c.args.site.now) c.in-Or.field-0) c.no_value-in-Or.ensures.goals c.no_value-in-Or.ensures.is
 
 pub values::made-returns-in-Arrow : goal.values::made-returns-in-Arrow
-values::made-returns-in-Arrow t c = no_value-as (site_of c.args.site.now) c.args.exp.now (e.Arrow c.in-Arrow.field-0 c.in-Arrow.field-1) c.args.slots.now c.args.goals.now.items c.no_value-in-Arrow.new.goals.items c.args.helpers.now.items c.no_value-in-Arrow.result c.in-Arrow.is (none-arrow (site_of c.args.site.now) c.in-Arrow.field-0 c.in-Arrow.field-1 c.args.slots.now) (bare-arrow (site_of c.args.site.now) c.in-Arrow.field-0 c.in-Arrow.field-1) c.no_value-in-Arrow.ensures.goals c.no_value-in-Arrow.ensures.is
+values::made-returns-in-Arrow t c = no_value-as (reading_of c.args.reading) (site_of c.args.site.now) c.args.exp.now (e.Arrow c.in-Arrow.field-0 c.in-Arrow.field-1) c.args.slots.now c.args.goals.now.items c.no_value-in-Arrow.new.goals.items c.args.helpers.now.items c.no_value-in-Arrow.result c.in-Arrow.is (none-arrow (reading_of c.args.reading) (site_of c.args.site.now) c.in-Arrow.field-0 c.in-Arrow.field-1 c.args.slots.now) (bare-arrow (site_of c.args.site.now) c.in-Arrow.field-0 c.in-Arrow.field-1) c.no_value-in-Arrow.ensures.goals c.no_value-in-Arrow.ensures.is
 
 pub values::made-returns-in-If : goal.values::made-returns-in-If
-values::made-returns-in-If t c = no_value-as (site_of c.args.site.now) c.args.exp.now (e.If c.in-If.field-0 c.in-If.field-1) c.args.slots.now c.args.goals.now.items c.no_value-in-If.new.goals.items c.args.helpers.now.items c.no_value-in-If.result c.in-If.is (none-if (site_of c.args.site.now) c.in-If.field-0 c.in-If.field-1 c.args.slots.now) (bare-if (site_of c.args.site.now) c.in-If.field-0 c.in-If.field-1) c.no_value-in-If.ensures.goals c.no_value-in-If.ensures.is
+values::made-returns-in-If t c = no_value-as (reading_of c.args.reading) (site_of c.args.site.now) c.args.exp.now (e.If c.in-If.field-0 c.in-If.field-1) c.args.slots.now c.args.goals.now.items c.no_value-in-If.new.goals.items c.args.helpers.now.items c.no_value-in-If.result c.in-If.is (none-if (reading_of c.args.reading) (site_of c.args.site.now) c.in-If.field-0 c.in-If.field-1 c.args.slots.now) (bare-if (site_of c.args.site.now) c.in-If.field-0 c.in-If.field-1) c.no_value-in-If.ensures.goals c.no_value-in-If.ensures.is
 
 pub values::made-returns-in-Foreach : goal.values::made-returns-in-Foreach
-values::made-returns-in-Foreach t c = no_value-as (site_of c.args.site.now) c.args.exp.now (e.Foreach c.in-Foreach.field-0 c.in-Foreach.field-1) c.args.slots.now c.args.goals.now.items c.no_value-in-Foreach.new.goals.items c.args.helpers.now.items c.no_value-in-Foreach.result c.in-Foreach.is (none-foreach (site_of c.args.site.now) c.in-Foreach.field-0 c.in-Foreach.field-1 c.args.slots.now) (bare-foreach (site_of c.args.site.now) c.in-Foreach.field-0 c.in-Foreach.field-1) c.no_value-in-Foreach.ensures.goals c.no_value-in-Foreach.ensures.is
+values::made-returns-in-Foreach t c = no_value-as (reading_of c.args.reading) (site_of c.args.site.now) c.args.exp.now (e.Foreach c.in-Foreach.field-0 c.in-Foreach.field-1) c.args.slots.now c.args.goals.now.items c.no_value-in-Foreach.new.goals.items c.args.helpers.now.items c.no_value-in-Foreach.result c.in-Foreach.is (none-foreach (reading_of c.args.reading) (site_of c.args.site.now) c.in-Foreach.field-0 c.in-Foreach.field-1 c.args.slots.now) (bare-foreach (site_of c.args.site.now) c.in-Foreach.field-0 c.in-Foreach.field-1) c.no_value-in-Foreach.ensures.goals c.no_value-in-Foreach.ensures.is
 
 pub values::made-returns-in-While : goal.values::made-returns-in-While
-values::made-returns-in-While t c = no_value-as (site_of c.args.site.now) c.args.exp.now (e.While c.in-While.field-0 c.in-While.field-1) c.args.slots.now c.args.goals.now.items c.no_value-in-While.new.goals.items c.args.helpers.now.items c.no_value-in-While.result c.in-While.is (none-while (site_of c.args.site.now) c.in-While.field-0 c.in-While.field-1 c.args.slots.now) (bare-while (site_of c.args.site.now) c.in-While.field-0 c.in-While.field-1) c.no_value-in-While.ensures.goals c.no_value-in-While.ensures.is
+values::made-returns-in-While t c = no_value-as (reading_of c.args.reading) (site_of c.args.site.now) c.args.exp.now (e.While c.in-While.field-0 c.in-While.field-1) c.args.slots.now c.args.goals.now.items c.no_value-in-While.new.goals.items c.args.helpers.now.items c.no_value-in-While.result c.in-While.is (none-while (reading_of c.args.reading) (site_of c.args.site.now) c.in-While.field-0 c.in-While.field-1 c.args.slots.now) (bare-while (site_of c.args.site.now) c.in-While.field-0 c.in-While.field-1) c.no_value-in-While.ensures.goals c.no_value-in-While.ensures.is
 
 pub values::made-returns-in-DoWhile : goal.values::made-returns-in-DoWhile
-values::made-returns-in-DoWhile t c = no_value-as (site_of c.args.site.now) c.args.exp.now (e.DoWhile c.in-DoWhile.field-0 c.in-DoWhile.field-1) c.args.slots.now c.args.goals.now.items c.no_value-in-DoWhile.new.goals.items c.args.helpers.now.items c.no_value-in-DoWhile.result c.in-DoWhile.is (none-do_while (site_of c.args.site.now) c.in-DoWhile.field-0 c.in-DoWhile.field-1 c.args.slots.now) (bare-do_while (site_of c.args.site.now) c.in-DoWhile.field-0 c.in-DoWhile.field-1) c.no_value-in-DoWhile.ensures.goals c.no_value-in-DoWhile.ensures.is
+values::made-returns-in-DoWhile t c = no_value-as (reading_of c.args.reading) (site_of c.args.site.now) c.args.exp.now (e.DoWhile c.in-DoWhile.field-0 c.in-DoWhile.field-1) c.args.slots.now c.args.goals.now.items c.no_value-in-DoWhile.new.goals.items c.args.helpers.now.items c.no_value-in-DoWhile.result c.in-DoWhile.is (none-do_while (reading_of c.args.reading) (site_of c.args.site.now) c.in-DoWhile.field-0 c.in-DoWhile.field-1 c.args.slots.now) (bare-do_while (site_of c.args.site.now) c.in-DoWhile.field-0 c.in-DoWhile.field-1) c.no_value-in-DoWhile.ensures.goals c.no_value-in-DoWhile.ensures.is
 
 pub goals::alone-returns : goal.goals::alone-returns
 goals::alone-returns t c = IfOk-weaker c.in_turn.result _ _ (λ goal so.
@@ -534,8 +616,8 @@ calls::push_call-returns-in_ok-terms-in-Plain t c = IfOk-weaker c.push_made-in-P
     let found : Found c.args.name.now c.args.args.now (length c.args.args.now) c.call_form.result = (record { same = refl; has = c.call_form.ensures.has; is = c.call_form.ensures.is }) in
     record {
       is = let same : c.deref.result.now ≡ c.in_ok-terms-in-Plain.terms.items = search rules in
-          put-plain (site_of c.args.site.now) c.args.name.now c.args.args.now (length c.args.args.now) c.call_form.result c.args.slots.now c.values.new.slots c.args.goals.now.items c.values.new.goals.items c.push_made-in-Plain.new.goals.items c.in_ok-terms-in-Plain.terms.items (GoalTree.call c.args.name.now c.deref.result.now) found c.in-Plain.is c.in_ok-terms-in-Plain.ensures.is (ap (GoalTree.call c.args.name.now) same) (put-as-made c.call.result (GoalTree.call c.args.name.now c.deref.result.now) c.values.new.goals.items c.push_made-in-Plain.new.goals.items so c.call.ensures.ok);
-      helpers = same-helpers (map pred_tree c.args.helpers.now.items) (map pred_tree c.values.new.helpers.items) (all_helpers (site_of c.args.site.now) (exps_of c.args.args.now)) (call_goal_helpers (site_of c.args.site.now) c.args.name.now (exps_of c.args.args.now)) (helpers-plain (site_of c.args.site.now) c.args.name.now c.args.args.now (length c.args.args.now) c.call_form.result found c.in-Plain.is) c.in_ok-terms-in-Plain.ensures.helpers;
+          put-plain (site_of c.args.site.now) c.args.name.now c.args.args.now (length c.args.args.now) c.call_form.result (readings_of c.of_goal-readings.result) c.args.slots.now c.values_as.new.slots c.args.goals.now.items c.values_as.new.goals.items c.push_made-in-Plain.new.goals.items c.in_ok-terms-in-Plain.terms.items (GoalTree.call c.args.name.now c.deref.result.now) found c.in-Plain.is c.of_goal-readings.ensures c.in_ok-terms-in-Plain.ensures.is (ap (GoalTree.call c.args.name.now) same) (put-as-made c.call.result (GoalTree.call c.args.name.now c.deref.result.now) c.values_as.new.goals.items c.push_made-in-Plain.new.goals.items so c.call.ensures.ok);
+      helpers = same-helpers (map pred_tree c.args.helpers.now.items) (map pred_tree c.values_as.new.helpers.items) (all_helpers (site_of c.args.site.now) (exps_of c.args.args.now)) (call_goal_helpers (site_of c.args.site.now) c.args.name.now (exps_of c.args.args.now)) (helpers-plain (site_of c.args.site.now) c.args.name.now c.args.args.now (length c.args.args.now) c.call_form.result found c.in-Plain.is) c.in_ok-terms-in-Plain.ensures.helpers;
     }) c.push_made-in-Plain.ensures
 
 -- ---- loops over iterators and tests

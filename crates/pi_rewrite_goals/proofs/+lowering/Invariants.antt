@@ -8,12 +8,13 @@ use Rattle.pi_rewrite_spec.specs.Goals.{indexed_by}
 use Rattle.pi_rewrite_spec.specs.Written.{all_of}
 use Rattle.pi_rewrite_spec.specs.Helpers.{all_helpers, conjunct_helpers, branch_helpers}
 use Rattle.pi_rewrite_slots.specs.Branches.{branches_in}
+use Rattle.pi_rewrite_slots.specs.ReadAs.{readings_of}
 use Rattle.pi_rewrite_sites.specs.SiteOf.{site_of}
 use Rattle.pi_rewrite_loops.specs.Parts.{IsValue}
 use Rattle.pi_rewrite_loops.specs.Helpers.{ending_of}
 use Rattle.pi_rewrite_goals.specs.Planned.{inner_in}
 use Rattle.pi_rewrite_goals.specs.Opened.{OpenTo}
-use Rattle.pi_rewrite_goals.specs.Lowering.{values_of}
+use Rattle.pi_rewrite_goals.specs.Lowering.{values_as}
 use Rattle.pi_rewrite_goals.proofs.PartLemmas.{places_in, ValuesTo, GoalsTo, IndexedTo}
 use Rattle.pi_rewrite_goals.proofs.HelperLemmas.{Going}
 use Rattle.pi_rewrite_goals.proofs.BranchLemmas.{BranchesTo, ConditionsTo}
@@ -21,9 +22,9 @@ use Rattle.pi_rewrite_goals.proofs.+lowering.Given as goal
 
 -- What is made stands in front of what the definition makes of those that are left, from where these stand; and so do the helpers.
 
-abbrev pub invariant-values::values-loop-i : goal.invariant-values::values-loop-i
-invariant-values::values-loop-i l =
-    Going (ValuesTo (values_of l.are_parts (site_of l.site) (exps_of l.exps) l.initial.slots) (values_of l.are_parts (site_of l.here) (exps_of (drop l.i l.exps)) l.slots) l.initial.goals.items l.goals.items l.terms.items)
+abbrev pub invariant-values::values_as-loop-i : goal.invariant-values::values_as-loop-i
+invariant-values::values_as-loop-i l =
+    Going (ValuesTo (values_as l.are_parts (site_of l.site) (readings_of l.readings) (exps_of l.exps) l.initial.slots) (values_as l.are_parts (site_of l.here) (drop l.i (readings_of l.readings)) (exps_of (drop l.i l.exps)) l.slots) l.initial.goals.items l.goals.items l.terms.items)
     l.initial.helpers.items l.helpers.items (all_helpers (site_of l.site) (exps_of l.exps)) (all_helpers (site_of l.here) (exps_of (drop l.i l.exps)))
 
 abbrev pub invariant-structures::indexed_by-loop-exp : goal.invariant-structures::indexed_by-loop-exp
