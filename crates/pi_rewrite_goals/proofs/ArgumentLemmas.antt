@@ -13,7 +13,7 @@ use Rattle.pi_syntax.specs.declared.exp.Exp.TheViews.{out-Exp, roll-Exp, roll-ou
 use Rattle.pi_rewrite_spec.specs.Slots.{SlotNames}
 use Rattle.pi_rewrite_spec.specs.Goals.{no_value, value_at}
 use Rattle.pi_rewrite_spec.specs.Sites.{Site}
-use Rattle.pi_rewrite_spec.specs.Written.{made_as, made, is_range, collection_of}
+use Rattle.pi_rewrite_spec.specs.Written.{made_as, is_range, collection_of}
 use Rattle.pi_rewrite_spec.specs.Helpers.{value_helpers, helpers_at, collection_helpers}
 use Rattle.pi_rewrite_goals.specs.Planned.{IsCollectionOver}
 use Rattle.pi_rewrite_goals.proofs.ValueLemmas.{put-none}

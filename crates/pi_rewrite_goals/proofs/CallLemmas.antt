@@ -16,7 +16,7 @@ use Rattle.pi_rewrite_spec.specs.Slots.{SlotNames}
 use Rattle.pi_rewrite_spec.specs.Goals.{SlotParts, goal_by, goals_at, value_at, assigned, catching, called, never, found_by, all_counted}
 use Rattle.pi_rewrite_spec.specs.Values.{SlotValue, applied}
 use Rattle.pi_rewrite_spec.specs.Sites.{Site, helpers_in, behind_site, behind_exp, following_sites, value_sites}
-use Rattle.pi_rewrite_spec.specs.Written.{made_as, made, goal_of, arguments_as, arguments}
+use Rattle.pi_rewrite_spec.specs.Written.{made_as, goal_of, arguments_as, arguments}
 use Rattle.pi_rewrite_spec.specs.Helpers.{HelperParts, helpers_at, value_helpers, goal_helpers, all_helpers}
 use Rattle.pi_rewrite_goals.specs.Lowering.{value_of, parts_at, helpers_by, goal_with, value_with, goal_helpers_with, value_helpers_with, call_as_goal, call_as_value, call_goal_helpers, call_value_helpers}
 use Rattle.pi_rewrite_goals.specs.Calls.{IsForm, HasCount, is_plain}

@@ -27,7 +27,7 @@ use Rattle.pi_rewrite_spec.specs.Helpers.{value_helpers, all_helpers}
 use Rattle.pi_rewrite_slots.proofs.ExpTrees.{if_then-is, if_else-is, list-is, list_onto-is, index-is, range-is, range_by-is}
 use Rattle.pi_rewrite_spec.proofs.ReadingLemmas.{third-of}
 use Rattle.pi_rewrite_loops.specs.Parts.{IsValue, AreValues, AreGoals, IsAlone}
-use Rattle.pi_rewrite_goals.specs.Lowering.{With, GivesAs, so_far, value_of, by_place_as, by_place, values_as, values_of, value_with, call_as_value}
+use Rattle.pi_rewrite_goals.specs.Lowering.{With, GivesAs, so_far, value_of, by_place_as, by_place, values_as, values_of, call_as_value}
 use Rattle.pi_rewrite_goals.specs.Shapes.{IsSpan}
 use Rattle.pi_rewrite_goals.specs.Calls.{collected_of, counted_of}
 use Rattle.pi_rewrite_goals.proofs.ValueLemmas.{value-as, values-as, put-none, put-parts, put-onto, put-applied, two-values, three-values, put-found, put-counted}

@@ -16,7 +16,7 @@ use Rattle.pi_rewrite_spec.specs.Sites.{Site, helpers_in, behind_site, behind_ex
 use Rattle.pi_rewrite_spec.specs.Loops.{Loop, started}
 use Rattle.pi_rewrite_spec.specs.Iterators.{only, walked, over, iterator_goals}
 use Rattle.pi_rewrite_spec.specs.Ranges.{range_of, low_of, step_of, high_of, through, range_goals}
-use Rattle.pi_rewrite_spec.specs.Written.{made_as, made, gone_over, is_range, bounds_of, collection_of}
+use Rattle.pi_rewrite_spec.specs.Written.{made_as, gone_over, is_range, bounds_of, collection_of}
 use Rattle.pi_rewrite_spec.specs.Helpers.{value_helpers, helpers_at, collection_helpers}
 use Rattle.pi_rewrite_loops.specs.Parts.{AreGoals, IsValue, AreValues, IsRange, goals_before}
 use Rattle.pi_rewrite_loops.specs.Helpers.{range_between}

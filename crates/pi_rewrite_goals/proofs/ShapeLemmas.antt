@@ -16,7 +16,7 @@ use Rattle.pi_rewrite_spec.specs.Sites.{Site}
 use Rattle.pi_rewrite_spec.specs.Loops.{as_it_is}
 use Rattle.pi_rewrite_spec.specs.Written.{inner_of}
 use Rattle.pi_rewrite_sites.proofs.NowTrees.{range-now, range_by-now}
-use Rattle.pi_rewrite_goals.specs.Lowering.{Puts, GivesAs, Gives, so_far}
+use Rattle.pi_rewrite_goals.specs.Lowering.{Puts, GivesAs, so_far}
 use Rattle.pi_rewrite_goals.specs.Shapes.{IsStepped}
 use Rattle.pi_rewrite_goals.specs.Opening.{Iterates, HasBegun, Gathers, IsGathering}
 use Rattle.pi_rewrite_goals.specs.declared.whole.Iterating.{Iterating}

@@ -1,8 +1,7 @@
 -- Names that may be called where goals and expressions are built: those of the tables, and others than what later stages give.
-use Rattle.std.proofs.Common.{◌≡◌, ℕ, Bool, true, false, cond, List, refl, sym, ◌∙◌, ap, subst}
-use Rattle.std.specs.Prelude.{◌==◌, ◌&&◌, ◌||◌, not, Option, Some, None, is_none, codes}
-use Rattle.std.specs.Str.{bytes_eq}
-use Rattle.std.proofs.lemmas.Bool.{and_parts, or_parts, eqb-true}
+use Rattle.std.proofs.Common.{◌≡◌, ℕ, Bool, true, false, cond, List, refl, sym, ◌∙◌, ap}
+use Rattle.std.specs.Prelude.{◌&&◌, ◌||◌, not, Option, Some, None, is_none, codes}
+use Rattle.std.proofs.lemmas.Bool.{and_parts, or_parts}
 use Rattle.pi_effects.specs.Rows.{has_line}
 use Rattle.pi_effects.specs.Integers.{integer_functions}
 use Rattle.pi_effects.specs.Collections.{collection_functions}
@@ -18,9 +17,7 @@ use Rattle.pi_syntax.specs.Names.{kind_of}
 use Rattle.pi_syntax.specs.declared.builtin.BuiltinKind.{BuiltinKind}
 use Rattle.pi_syntax.specs.declared.builtin.BuiltinKind.TheVariants.{Predicate, Function, Prelude}
 use Rattle.pi_meaning.specs.Shared.Names.{is_later_predicate, is_later_function}
-use Rattle.pi_meaning.specs.OverNames.Forms.{is_find_all, is_count_all, is_operand_node, is_sum, is_connective, is_constraint}
 use Rattle.pi_meaning.specs.OverNames.Kinds.{is_unwritten, means_function, means_predicate, means_prelude}
-use Rattle.pi_meaning.proofs.Shared.TableLemmas.{same-name}
 use Rattle.pi_meaning.proofs.OverNames.BuiltInNames.{names-have-their-kinds}
 use Rattle.pi_rewrite_sound.specs.Built.{is_own, is_prelude_kind, is_built_predicate, is_built_function}
 

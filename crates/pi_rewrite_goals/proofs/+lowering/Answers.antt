@@ -1,5 +1,5 @@
 -- Each kind of goal and expression by its lemma.
-use Rattle.std.specs.Prelude.{Bool, true, ◌&&◌, Some, map}
+use Rattle.std.specs.Prelude.{true, ◌&&◌, Some, map}
 use Rattle.std.proofs.Common.{◌≡◌, ◌+◌, [], ◌++◌, length, drop, refl, sym, ◌∙◌, ap, arith, rules}
 use Rattle.std.proofs.lemmas.Result.{IfOk-weaker}
 use Rattle.pi_core.specs.GoalTree.{GoalTree}
