@@ -3,7 +3,7 @@ ghost use Rattle.std.specs.Prelude.{◌≡◌, true, false, not, MatchOption};
 ghost use Rattle.pi_constraints.specs.Domain.{has_value};
 ghost use Rattle.pi_sat_spec.specs.Literals.{left_by};
 ghost use Rattle.pi_sat_spec.specs.Domains.{domain_of, is_allowed, has_none};
-ghost use Rattle.pi_sat_check.specs.Places.{IsPlace, IsNoPlace};
+ghost use Rattle.pi_sat_spec.specs.Places.{IsPlace, IsNoPlace};
 
 use pi_constraints::{Domain, VarDomain, contains, max, min};
 use pi_sat_spec::Literal;

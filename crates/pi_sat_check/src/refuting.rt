@@ -5,7 +5,7 @@ ghost use Rattle.pi_constraints.specs.Domain.{has_value, IsWithinBounds};
 ghost use Rattle.pi_prop_spec.specs.Places.{places_of, domain_at};
 ghost use Rattle.pi_sat_spec.specs.Domains.{domain_of, item_domain, only, at_places};
 ghost use Rattle.pi_sat_spec.specs.Logs.{Refutes};
-ghost use Rattle.pi_sat_check.specs.Places.{HaveNone};
+ghost use Rattle.pi_sat_spec.specs.Places.{HaveNone};
 ghost use Rattle.pi_constraints.specs.Constraint.{IsItem, AreItems};
 
 use crate::cuts::{has_empty, is_empty};

@@ -2,7 +2,10 @@ pub mod CutLemmas
 pub mod FixedLemmas
 pub mod GrowLemmas
 pub mod InsideLemmas
+pub mod LeftLemmas
 pub mod LiteralLemmas
 pub mod LogExamples
 pub mod LogLemmas
+pub mod LookupLemmas
 pub mod PlaceLemmas
+pub mod StepLemmas

@@ -3,4 +3,5 @@ pub mod Fixed
 pub mod Laws
 pub mod Literals
 pub mod Logs
+pub mod Places
 pub mod Solutions

@@ -1,7 +1,7 @@
 use Rattle.std.proofs.Common.{List, sym, subst}
 use Rattle.pi_constraints.specs.declared.var_domain.VarDomain.{VarDomain}
-use Rattle.pi_sat_check.specs.Places.{IsPlace, IsNoPlace}
-use Rattle.pi_sat_check.proofs.LookupLemmas.{cut-none, cut-read}
+use Rattle.pi_sat_spec.specs.Places.{IsPlace, IsNoPlace}
+use Rattle.pi_sat_spec.proofs.LookupLemmas.{cut-none, cut-read}
 use Rattle.pi_sat_check.proofs.cuts.cut.Goals as goal
 
 pub returns-in-None : goal.returns-in-None

@@ -2,7 +2,7 @@ use Rattle.std.proofs.Common.{rules, ap, ◌∙◌}
 use Rattle.std.specs.Prelude.{ℤ, pos, ◌+ℤ◌}
 use Rattle.std.specs.Int.{w64, w128}
 use Rattle.std.proofs.lemmas.Int.{to_z-of_z}
-use Rattle.pi_sat_check.proofs.LeftLemmas.{left-above}
+use Rattle.pi_sat_spec.proofs.LeftLemmas.{left-above}
 use Rattle.pi_sat_check.proofs.cuts.left_above.Goals as goal
 
 pub returns : goal.returns

@@ -1,7 +1,7 @@
 use Rattle.std.proofs.Common.{rules, ◌∙◌}
 use Rattle.std.specs.Int.{w64, w128}
 use Rattle.std.proofs.lemmas.Int.{to_z-of_z}
-use Rattle.pi_sat_check.proofs.LeftLemmas.{left-at_most}
+use Rattle.pi_sat_spec.proofs.LeftLemmas.{left-at_most}
 use Rattle.pi_sat_check.proofs.cuts.left_at_most.Goals as goal
 
 pub returns : goal.returns

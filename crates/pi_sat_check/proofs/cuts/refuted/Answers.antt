@@ -1,7 +1,7 @@
 use Rattle.std.proofs.lemmas.List.{get_or_default}
 use Rattle.std.proofs.Common.{ap, ◌∙◌}
 use Rattle.pi_sat_spec.specs.Domains.{cut}
-use Rattle.pi_sat_check.proofs.StepLemmas.{refuted-step, refuted-end}
+use Rattle.pi_sat_spec.proofs.StepLemmas.{refuted-step, refuted-end}
 use Rattle.pi_sat_check.proofs.cuts.refuted.Goals as goal
 
 pub loop-literal-preserved : goal.loop-literal-preserved

@@ -4,7 +4,7 @@ use Rattle.std.specs.Prelude.{IsTrue}
 use Rattle.pi_constraints.specs.declared.var_domain.VarDomain.{VarDomain}
 use Rattle.pi_sat_spec.specs.Domains.{refuted}
 use Rattle.pi_sat_spec.specs.Logs.{Refutes}
-use Rattle.pi_sat_check.proofs.StepLemmas.{found-one}
+use Rattle.pi_sat_spec.proofs.StepLemmas.{found-one}
 use Rattle.pi_sat_check.proofs.entries.follows.Goals as goal
 
 pub returns-in_ok-refuted-in-Some : goal.returns-in_ok-refuted-in-Some

@@ -5,7 +5,7 @@ use Rattle.pi_sat_spec.specs.declared.entry.SatEntry.{SatEntry}
 use Rattle.pi_sat_spec.specs.declared.literal.Literal.{Literal}
 use Rattle.pi_sat_spec.specs.Domains.{IsLemma, refuted, has_empty}
 use Rattle.pi_sat_spec.specs.Logs.{lemma_of, leads_on, Refutes, IsRightEntry}
-use Rattle.pi_sat_check.proofs.StepLemmas.{with-first, with-first_of_two}
+use Rattle.pi_sat_spec.proofs.StepLemmas.{with-first, with-first_of_two}
 use Rattle.pi_sat_check.proofs.entries.is_right.Goals as goal
 
 pub returns-in_ok-right-in-FromConstraint : goal.returns-in_ok-right-in-FromConstraint

@@ -2,7 +2,7 @@ use Rattle.std.proofs.Common.{ℕ, ◌≡◌, ◌≤◌, List, length, get_or, a
 use Rattle.pi_sat_spec.specs.declared.literal.Literal.{Literal}
 use Rattle.pi_sat_spec.specs.Domains.{allowed}
 use Rattle.pi_sat_spec.specs.Logs.{lemma_at}
-use Rattle.pi_sat_check.proofs.StepLemmas.{lemma-read, led-nothing, led-one, led-more, led-end}
+use Rattle.pi_sat_spec.proofs.StepLemmas.{lemma-read, led-nothing, led-one, led-more, led-end}
 use Rattle.pi_sat_check.proofs.hints.leads_on.Goals as goal
 
 pub returns-in-Nothing : goal.returns-in-Nothing

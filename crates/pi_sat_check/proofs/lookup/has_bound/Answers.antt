@@ -2,7 +2,7 @@ use Rattle.std.proofs.Common.{rules, sym, ap₂, ◌∙◌}
 use Rattle.std.specs.Int.{w64, w128}
 use Rattle.std.proofs.lemmas.Int.{to_z-of_z}
 use Rattle.pi_constraints.specs.Domain.{has_value}
-use Rattle.pi_sat_check.proofs.LookupLemmas.{none-bound, domain-at}
+use Rattle.pi_sat_spec.proofs.LookupLemmas.{none-bound, domain-at}
 use Rattle.pi_sat_check.proofs.lookup.has_bound.Goals as goal
 
 pub returns-in-None : goal.returns-in-None

@@ -2,7 +2,7 @@ use Rattle.std.proofs.Common.{rules, refl, ap₂, ◌∙◌}
 use Rattle.std.specs.Prelude.{int_lt}
 use Rattle.std.specs.Int.{w64}
 use Rattle.std.proofs.lemmas.Int.{to_z-of_z}
-use Rattle.pi_sat_check.proofs.LeftLemmas.{empty-left, above-is}
+use Rattle.pi_sat_spec.proofs.LeftLemmas.{empty-left, above-is}
 use Rattle.pi_sat_check.proofs.lookup.is_above.Goals as goal
 
 pub returns-in-None : goal.returns-in-None

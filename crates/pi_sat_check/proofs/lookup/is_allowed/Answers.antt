@@ -3,7 +3,7 @@ use Rattle.std.specs.Prelude.{not}
 use Rattle.pi_constraints.specs.declared.domain.Span.{Span}
 use Rattle.pi_sat_spec.specs.Literals.{left_by}
 use Rattle.pi_sat_spec.specs.Domains.{has_none}
-use Rattle.pi_sat_check.proofs.LookupLemmas.{none-allowed, domain-at}
+use Rattle.pi_sat_spec.proofs.LookupLemmas.{none-allowed, domain-at}
 use Rattle.pi_sat_check.proofs.lookup.is_allowed.Goals as goal
 
 pub returns-in-None : goal.returns-in-None

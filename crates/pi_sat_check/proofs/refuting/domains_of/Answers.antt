@@ -1,5 +1,5 @@
 use Rattle.std.proofs.lemmas.List.{get_or_default}
-use Rattle.pi_sat_check.proofs.StepLemmas.{item-at}
+use Rattle.pi_sat_spec.proofs.StepLemmas.{item-at}
 use Rattle.pi_sat_check.proofs.refuting.domains_of.Goals as goal
 
 pub item_domain-requires : goal.item_domain-requires

@@ -5,7 +5,7 @@ use Rattle.pi_constraints.specs.declared.domain.Span.{Span}
 use Rattle.pi_constraints.specs.Domain.{has_value}
 use Rattle.pi_prop_spec.specs.Places.{domain_at}
 use Rattle.pi_sat_spec.specs.Domains.{has_none}
-use Rattle.pi_sat_check.proofs.LeftLemmas.{no-values, a-value}
+use Rattle.pi_sat_spec.proofs.LeftLemmas.{no-values, a-value}
 use Rattle.pi_sat_check.proofs.refuting.have_none.Goals as goal
 
 pub returns-then-is_empty : goal.returns-then-is_empty

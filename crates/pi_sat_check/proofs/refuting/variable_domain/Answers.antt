@@ -1,6 +1,6 @@
 use Rattle.std.proofs.Common.{sym, subst, ◌∙◌}
 use Rattle.pi_constraints.specs.Domain.{IsDomain}
-use Rattle.pi_sat_check.proofs.LookupLemmas.{domain-none, empty-domain, domain-at}
+use Rattle.pi_sat_spec.proofs.LookupLemmas.{domain-none, empty-domain, domain-at}
 use Rattle.pi_sat_check.proofs.refuting.variable_domain.Goals as goal
 
 pub new-requires-in-None : goal.new-requires-in-None

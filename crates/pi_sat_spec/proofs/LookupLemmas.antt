@@ -8,7 +8,7 @@ use Rattle.pi_constraints.specs.Domain.{IsDomain, AscendFrom, has_value, common}
 use Rattle.pi_sat_spec.specs.declared.literal.Literal.{Literal}
 use Rattle.pi_sat_spec.specs.Literals.{left_by}
 use Rattle.pi_sat_spec.specs.Domains.{domain_of, cut, is_allowed}
-use Rattle.pi_sat_check.specs.Places.{IsPlace, IsNoPlace}
+use Rattle.pi_sat_spec.specs.Places.{IsPlace, IsNoPlace}
 
 none-behind : (x : VarDomain) (xs : List VarDomain) (n : ℕ) → IsNoPlace (x ∷ xs) n → IsNoPlace xs n
 none-behind x xs n h = λ j other l. h (suc j) other (omega arith)

@@ -1,5 +1,5 @@
 -- Steps of loops, and what they come to.
-use Rattle.std.specs.Prelude.{◌≡◌, ◌↔◌, ℕ, zero, suc, ◌+◌, ◌<◌, ◌≤◌, Bool, true, false, IsTrue, Option, Some, None, List, [], ◌∷◌, length, get_or, slice_get, drop, refl}
+use Rattle.std.specs.Prelude.{◌≡◌, ◌↔◌, ℕ, zero, suc, ◌+◌, ◌<◌, ◌≤◌, Bool, true, false, IsTrue, Option, Some, None, List, [], ◌∷◌, length, get_or, slice_get, drop, ℤ, refl}
 use Rattle.std.proofs.Common.{arith, sym, ◌∙◌, ap, subst, inl, inr}
 use Rattle.std.proofs.lemmas.Bool.{both_ways}
 use Rattle.std.proofs.lemmas.List.{drop_more, drop_all, length-map}
@@ -9,15 +9,15 @@ use Rattle.pi_constraints.specs.declared.constraint.Item.{Item}
 use Rattle.pi_constraints.specs.declared.domain.Span.{Span}
 use Rattle.pi_constraints.specs.declared.var_domain.VarDomain.{VarDomain}
 use Rattle.pi_constraints.specs.Constraint.{IsItem, AreItems}
-use Rattle.pi_prop_spec.specs.Places.{places_of}
+use Rattle.pi_constraints.specs.Domain.{has_value}
+use Rattle.pi_prop_spec.specs.Places.{places_of, domain_at}
 use Rattle.pi_prop_spec.specs.Filter.{Leaves}
-use Rattle.pi_prop_filters.specs.Left.{AreLeft}
 use Rattle.pi_sat_spec.specs.declared.entry.SatEntry.{SatEntry}
 use Rattle.pi_sat_spec.specs.declared.literal.Literal.{Literal}
 use Rattle.pi_sat_spec.specs.Literals.{negated}
 use Rattle.pi_sat_spec.specs.Domains.{cut, refuted, has_empty, allowed, item_domain, at_places}
 use Rattle.pi_sat_spec.specs.Logs.{lemma_of, lemma_or_none, lemma_at, by_only, leads_on, Refutes}
-use Rattle.pi_sat_check.specs.Places.{HaveNone}
+use Rattle.pi_sat_spec.specs.Places.{HaveNone}
 
 -- ---- cuts
 
@@ -73,14 +73,14 @@ item-at [] k x l h e = absurd (omega arith)
 item-at (y ∷ xs) zero x l h e = subst IsItem (sym e) h.0
 item-at (y ∷ xs) (suc k) x l h e = item-at xs k x (omega arith) h.1 e
 
-pub none-left-is : (c : Constraint) (xs : List VarDomain) (ds left : List (List Span)) → ds ≡ at_places xs c → has_empty xs ≡ false → AreLeft c ds left → HaveNone left ↔ Refutes c xs
-none-left-is c xs ds left made some is =
-    let count : length left ≡ length (places_of c) = is.count ∙ (ap length made ∙ length-map (places_of c) (item_domain xs)) in
+pub none-left-is : (c : Constraint) (xs : List VarDomain) (ds left : List (List Span)) → ds ≡ at_places xs c → has_empty xs ≡ false → length left ≡ length ds → ((k : ℕ) (n : ℤ) → k < length ds → IsTrue (has_value (domain_at left k) n) ↔ Leaves c ds k n) → HaveNone left ↔ Refutes c xs
+none-left-is c xs ds left made some same values =
+    let count : length left ≡ length (places_of c) = same ∙ (ap length made ∙ length-map (places_of c) (item_domain xs)) in
     let many : length ds ≡ length (places_of c) = ap length made ∙ length-map (places_of c) (item_domain xs) in (
-      λ h. inr (h.0, (let l = h.1 in omega (arith, l, count)), λ n stays. h.2 n ((is.values h.0 n (let l = h.1 in omega (arith, l, count, many))).1 (subst (λ (es : List (List Span)). Leaves c es h.0 n) (sym made) stays))),
+      λ h. inr (h.0, (let l = h.1 in omega (arith, l, count)), λ n stays. h.2 n ((values h.0 n (let l = h.1 in omega (arith, l, count, many))).1 (subst (λ (es : List (List Span)). Leaves c es h.0 n) (sym made) stays))),
       λ h. elim h [
         | inl empty ↦ absurd (both_ways (has_empty xs) some empty)
-        | inr (k, l, none) ↦ (k, omega (arith, l, count), λ n has. none n (subst (λ (es : List (List Span)). Leaves c es k n) made ((is.values k n (omega (arith, l, many))).0 has)))
+        | inr (k, l, none) ↦ (k, omega (arith, l, count), λ n has. none n (subst (λ (es : List (List Span)). Leaves c es k n) made ((values k n (omega (arith, l, many))).0 has)))
       ],
     )
 

@@ -1,3 +1,0 @@
-pub mod LeftLemmas
-pub mod LookupLemmas
-pub mod StepLemmas

@@ -1,0 +1,3 @@
+pub mod Assigned
+pub mod LemmaStates
+pub mod Steps

@@ -1,0 +1,27 @@
+//! The search for values that learns lemmas: each lemma is tested before it is kept, and so are the values that are answered.
+#![tactic(auto)]
+
+mod advance;
+mod answers;
+mod append;
+mod building;
+mod cuts;
+mod decisions;
+mod entries;
+mod filtered;
+mod given;
+mod hints;
+mod learning;
+mod lemmas;
+mod limits;
+mod lookup;
+mod propagation;
+mod reasons;
+mod search;
+mod solutions;
+mod stand;
+mod steps;
+mod trail;
+
+pub use search::SatSearch;
+pub use steps::SatStep;
