@@ -1,6 +1,6 @@
 -- Settling: what comes after each built-in predicate, and after a fact, a plan or an exception is unified. The domains become the stable ones, and the goal's events wake agents. A goal
 -- that gave no variable another value or domain and posted nothing leaves nothing to settle. (A User's Guide to Picat, 'Constraints'; own as `pi_settling` says.)
-use Rattle.std.specs.Prelude.{ℕ, ◌==◌, Bool, true, false, cond, not, ◌&&◌, List, [], ◌∷◌, length, Option, Some, None}
+use Rattle.std.specs.Prelude.{◌==◌, Bool, true, false, cond, not, ◌&&◌, List, [], ◌∷◌, length, Option, Some, None}
 use Rattle.pi_constraints.specs.State.{State, Variable, free, within, bound}
 use Rattle.pi_traces.specs.Trace.{Trace, done}
 use Rattle.pi_settling.specs.Load.{is_another}
