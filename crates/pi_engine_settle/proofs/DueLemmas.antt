@@ -267,12 +267,12 @@ number-there (x ∷ xs) (suc i) l = number-there xs i (omega (arith, l))
 at-number : (before s : State) (i : ℕ) (c : Constraint) → slice_get s.constraints i ≡ Some c → is_due before s i c ≡ true → IsDueAt before s 0 s.constraints i
 at-number before s i c at is = record { place = i; constraint = c; there = at; number = omega arith; is = is }
 
-new-due : (before s : State) (i : ℕ) → IsNew before s i → IsDueAt before s 0 s.constraints i
+pub new-due : (before s : State) (i : ℕ) → IsNew before s i → IsDueAt before s 0 s.constraints i
 new-due before s i new =
     let (c, at) = number-there s.constraints i new.1 in
     at-number before s i c at (due-new before s i c new.0)
 
-old-due : (before s : State) (i : ℕ) → IsCalm before → Follows before s → IsOnChanged before s i → IsDueAt before s 0 s.constraints i
+pub old-due : (before s : State) (i : ℕ) → IsCalm before → Follows before s → IsOnChanged before s i → IsDueAt before s 0 s.constraints i
 old-due before s i calm f (n, changed, (c, k, at, speaks, leads)) = at-number before s i c at (elim (less_or_not i (length before.constraints)) [
   | inl less ↦ due-old before s i c less ∙ old-changed before s i c n k calm f less at changed speaks leads
   | inr new ↦ due-new before s i c new

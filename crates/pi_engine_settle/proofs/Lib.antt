@@ -5,3 +5,4 @@ pub mod FollowLemmas
 pub mod MemberLemmas
 pub mod LostLemmas
 pub mod MarkLemmas
+pub mod SettlementLemmas

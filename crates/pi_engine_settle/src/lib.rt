@@ -4,6 +4,8 @@
 pub mod laws;
 mod propagating;
 mod since;
+mod since_settled;
 
 pub use propagating::{Settled, settle};
 pub use since::{Since, begin, due_since};
+pub use since_settled::settle_since;
