@@ -160,19 +160,24 @@ fewer-in-either before s due w g h None is =
 pub spent-as : (before s r : State) (due : List ℕ) (w : Worked) → LeftBy before s → HasStopped before s due w → SettlesAs (settlement before s) w r Settled.Spent
 spent-as before s r due w g h = (h.spent, h.just, fewer-in-either before s due w g h (stable_state s) refl)
 
--- where nothing is due
-pub stands-as : (before s : State) (limit : ℕ) (old : Work) (due : List ℕ) → LeftBy before s → due ≡ [] → IsDueFor before s due → SettlesAs (settlement before s) (worked limit old old) s Settled.Left
-stands-as before s limit old due g none d =
-    let stands : settlement before s ≡ nothing_to_settle s =
-        settlement-of-goal before s g.calm g.follows g.state g.settles g.none_made ∙ as-it-stands before s g.state g.settles (settled-left before s due none d g.state g.settles g.none_made) in
-    subst (λ m. SettlesAs m (worked limit old old) s Settled.Left) (sym stands) (refl, calm-left before s due none d g.state g.settles, omega arith)
+-- where nothing is due the state is settled as it stands
+stands-so : (before s : State) (due : List ℕ) → LeftBy before s → due ≡ [] → IsDueFor before s due → (settlement before s ≡ nothing_to_settle s) × IsCalm s
+stands-so before s due g none d = (
+  settlement-of-goal before s g.calm g.follows g.state g.settles g.none_made ∙ as-it-stands before s g.state g.settles (settled-left before s due none d g.state g.settles g.none_made),
+  calm-left before s due none d g.state g.settles,
+)
 
 none-of : {A : Type 0} (xs : List A) → length xs ≡ 0 → xs ≡ []
 none-of [] h = refl
 none-of (x ∷ xs) h = absurd (omega (arith, h))
 
+pub none-due-stands : (before s : State) (due : List ℕ) → LeftBy before s → length due ≡ 0 → IsDueFor before s due → (settlement before s ≡ nothing_to_settle s) × IsCalm s
+none-due-stands before s due g none d = stands-so before s due g (none-of due none) d
+
 pub none-left : (before s : State) (limit : ℕ) (old : Work) (due : List ℕ) → LeftBy before s → length due ≡ 0 → IsDueFor before s due → SettlesAs (settlement before s) (worked limit old old) s Settled.Left
-none-left before s limit old due g none d = stands-as before s limit old due g (none-of due none) d
+none-left before s limit old due g none d =
+    let it : (settlement before s ≡ nothing_to_settle s) × IsCalm s = none-due-stands before s due g none d in
+    subst (λ m. SettlesAs m (worked limit old old) s Settled.Left) (sym it.0) (refl, it.1, omega arith)
 
 pub settles-as : (before s r : State) (due : List ℕ) (limit : ℕ) (old new : Work) → LeftBy before s → (settled : Settled) → ComesTo before s due (worked limit old new) r settled →
     SettlesAs (settlement before s) (worked limit old new) r settled

@@ -1,11 +1,7 @@
-use Rattle.std.specs.Prelude.{Result, Ok, Err, IfOk}
+use Rattle.std.proofs.lemmas.Result.{IfOk-weaker}
 use Rattle.std.proofs.Common.{sym, ◌∙◌}
 use Rattle.pi_engine_settle.proofs.SettlementLemmas.{none-left, settles-as}
 use Rattle.pi_engine_settle.proofs.since_settled.settle_since.Goals as goal
-
-each-ok : {T E : Type 0} (P Q : T → Type 0) → ((x : T) → P x → Q x) → (r : Result T E) → IfOk r P → IfOk r Q
-each-ok P Q f (Ok x) h = f x h
-each-ok P Q f (Err e) h = tt
 
 pub returns-then-len-eq0-clause-settles : goal.returns-then-len-eq0-clause-settles
 returns-then-len-eq0-clause-settles g c = λ before since by.
@@ -16,7 +12,7 @@ pub returns-clause-settles : goal.returns-clause-settles
 returns-clause-settles g c =
     let s = (g.S.StateStore.seen c.args.store.now).now.state in
     let r = (g.S.StateStore.seen c.settle.new.store).now.state in
-    each-ok _ _
+    IfOk-weaker c.settle.result _ _
     (λ settled comes. λ before since by.
     settles-as before s r c.in_ok-due.due c.args.limit c.args.work.now c.settle.new.work by settled (comes before (c.in_ok-due.ensures before since by.calm by.follows by.state) by.state by.settles))
-    c.settle.result c.settle.ensures.comes
+    c.settle.ensures.comes
