@@ -3,7 +3,8 @@ use Rattle.std.proofs.Common.{◌≡◌, ℕ, List, [], ◌∷◌, Option, Some,
 use Rattle.std.specs.Prelude.{codes}
 use Rattle.pi_terms.specs.Tree.{Tree, Trees, no_trees, tree, tree_count, var, int, atom, comp}
 use Rattle.pi_terms.specs.Places.{Places, held}
-use Rattle.pi_constraints.specs.State.{State, IsState, bindings}
+use Rattle.pi_constraints.specs.State.{State, bindings}
+use Rattle.pi_engine_stands.specs.Rests.{Rests}
 use Rattle.pi_meaning.specs.Shared.View.{View}
 use Rattle.pi_constraints.specs.Unify.{unified}
 use Rattle.pi_effects.specs.Effect.{succeeds_in}
@@ -18,7 +19,6 @@ use Rattle.pi_core.specs.CoreTree.{PredTree}
 use Rattle.pi_core.specs.GoalTree.{GoalTree, truth, fail, tick, call, apply, seq, alternatives, if_else, not, once, collect, count, catch, GoalTrees}
 use Rattle.pi_core.specs.GoalCells.{kind_of}
 use Rattle.pi_core.specs.declared.goal_node.GoalKind.{GoalKind}
-use Rattle.pi_constraints.proofs.KeepsLemmas.{new-keeps}
 use Rattle.pi_constraints.specs.Value.{value}
 use Rattle.pi_engine_stands.specs.Makes.{raised_for}
 use Rattle.pi_meaning.specs.Machine.Configuration.{Frame, Entry, Now, going, failed, raising, config}
@@ -71,26 +71,6 @@ catch-of (once g) b h = absurd cc
 catch-of (collect g value into) b h = absurd cc
 catch-of (count g into) b h = absurd cc
 catch-of (catch g ball handler) b h = (g, handler, cc)
-
--- ---- states
-
-slot-state : (o : Option Tree) (k : ℕ) (e : Places) (s : State) → IsState s → IsState (slot_term o k e s).state
-slot-state (Some t) k e s is = is
-slot-state None k e s is = new-keeps s is
-
-mutual
-  unfolding evaluated
-
-  -- a state stays one where a term is evaluated
-  pub evaluated-state : (t : Tree) (e : Places) (s : State) → IsState s → IsState (evaluated t e s).state
-  evaluated-state (var k) e s is = slot-state (held e k) k e s is
-  evaluated-state (int n) e s is = is
-  evaluated-state (atom name) e s is = is
-  evaluated-state (comp name ts) e s is = evaluated-all-state ts e s is
-
-  pub evaluated-all-state : (ts : Trees) (e : Places) (s : State) → IsState s → IsState (evaluated_all ts e s).state
-  evaluated-all-state no_trees e s is = is
-  evaluated-all-state (tree t ts) e s is = let x : Evaluated = evaluated t e s in evaluated-all-state ts x.slots x.state (evaluated-state t e s is)
 
 -- ---- a unification
 

@@ -4,9 +4,9 @@ use Rattle.std.specs.Prelude.{slice_get, if◌then◌else◌}
 use Rattle.pi_terms.specs.Tree.{Tree}
 use Rattle.pi_terms.specs.Places.{Places}
 use Rattle.pi_terms.specs.Copy.{copy, new_variables}
-use Rattle.pi_constraints.specs.State.{State, IsState, SpeaksBelow, next, with_new}
+use Rattle.pi_constraints.specs.State.{State, SpeaksBelow, next, with_new}
+use Rattle.pi_engine_stands.specs.Rests.{Rests}
 use Rattle.pi_constraints.specs.declared.store.Ref.{Ref}
-use Rattle.pi_constraints.proofs.KeepsLemmas.{news-keep}
 use Rattle.pi_unify.proofs.KeepsLemmas.{keeps_then}
 use Rattle.pi_constraints.specs.Store.{StoreView, Keeps, Gives, IsTerm}
 use Rattle.pi_constraints.specs.Unify.{unified}
@@ -34,12 +34,14 @@ use Rattle.pi_engine_stands.specs.Raises.{TellsCaught}
 use Rattle.pi_engine_code.proofs.CodeLemmas.{child_place-first, child_place-more}
 use Rattle.pi_engine_stands.proofs.NodeLemmas.{kind-here}
 use Rattle.pi_engine_stands.proofs.SlotsStand.{writes-then}
-use Rattle.pi_engine_stands.proofs.EqualStands.{stack-moved, writes-kept}
+use Rattle.pi_engine_stands.proofs.EqualStands.{stack-moved, writes-kept, lies-moved}
 use Rattle.pi_engine_stands.proofs.StandsLemmas.{moved}
 use Rattle.pi_engine_stands.proofs.BackStand.{Popped, popped, popped-stands}
 use Rattle.pi_engine_stands.proofs.EndsStand.{child-runs, child-found}
 use Rattle.pi_engine_stands.proofs.WrittenGoals.{own-step, GoalWritten, goal-written}
 use Rattle.pi_engine_stands.specs.Changes.{change}
+use Rattle.pi_engine_stands.proofs.RestLemmas.{news-rest, answered-rests}
+use Rattle.pi_engine_stands.proofs.StacksLie.{stack-lies}
 
 -- ---- the handler
 
@@ -116,18 +118,18 @@ news-are (suc k) s = ap with_new (news-are k s) ∙ new-last k s
 -- ---- what follows
 
 follows : {M : Type 0} (w : World M) (u : StoreView M) (c : ArenasView M) (base place frame at_child : ℕ) (g handler : GoalTree) (wanted ball : Tree) (e : Places) (k : List Frame) (es : List EntryData) (o : Option State) (found : Bool) (now : Now) → StackStands w es →
-    GoalStands w.loaded (now_here w) base place frame (catch g wanted handler) e k → Agrees w w.arenas.level (now_here w) → Writes (block_at w.loaded place base) (between w.store u w.arenas c) e u.now.state → IsState u.now.state →
+    GoalStands w.loaded (now_here w) base place frame (catch g wanted handler) e k → Agrees w w.arenas.level (now_here w) → Writes (block_at w.loaded place base) (between w.store u w.arenas c) e u.now.state → (found ≡ true → Rests u.now.state) →
     (found ≡ true → at_child ≡ child_place (catch g wanted handler) place 1) → Answers o found u.now.state →
     now ≡ (if found then Now.Going (record { place = at_child; count = 1; base = base; frame = frame }) else Now.Raising ball) →
     Stands (moved w u c) now (config (handler_step handler (record { slots = e; state = w.store.now.state; frames = k }) ball o) es)
 follows w u c base place frame at_child g handler wanted ball e k es None found now stands own agrees writes state child_is answers follows_it =
     subst (λ r. Stands (moved w u c) r (config (raising ball) es)) (sym (follows_it ∙ ap (λ q. if q then Now.Going (record { place = at_child; count = 1; base = base; frame = frame }) else Now.Raising ball) answers))
-    (record { entries = stack-moved w u c (block_at w.loaded place base) e u.now.state es writes state stands; runs = raising_now })
+    (record { entries = lies-moved w u c (block_at w.loaded place base) e u.now.state es writes (stack-lies w es stands); runs = raising_now })
 follows w u c base place frame at_child g handler wanted ball e k es (Some r) found now stands own agrees writes state child_is answers follows_it =
     let it : GoalWritten (moved w u c) base place frame (catch g wanted handler) e k = goal-written w u c base place frame (catch g wanted handler) e e u.now.state k es stands own agrees writes in
     subst (λ q. Stands (moved w u c) q (config (run_goal handler e r k) es)) (sym (follows_it ∙ ap (λ q. if q then Now.Going (record { place = at_child; count = 1; base = base; frame = frame }) else Now.Raising ball) answers.0))
     (record {
-      entries = stack-moved w u c (block_at w.loaded place base) e u.now.state es writes state stands;
+      entries = stack-moved w u c (block_at w.loaded place base) e u.now.state es writes (state answers.0) stands;
       runs = subst (λ q. NowIs (moved w u c) (Now.Going (record { place = at_child; count = 1; base = base; frame = frame })) (run_goal handler e q k)) answers.1
           (going_now (subst (λ n. GoingIs (moved w u c) (record { place = n; count = 1; base = base; frame = frame }) (goal handler no_goals) e k) (sym (child_is answers.0))
           (handler-runs (moved w u c) base place frame g handler wanted e k it.goal it.agrees)));
@@ -156,11 +158,14 @@ caught-in w u c back collected from place at_child slots code s kind ball found 
     let step_is : s ≡ there.0 = step there.0 (ap (λ q. slice_get q.steps.items place) (sym is_code) ∙ ap (slice_get (steps_of w.loaded)) same ∙ there.1) in
     let at_step : slice_get (steps_of w.loaded) at ≡ Some s = there.1 ∙ ap Some (sym step_is) in
     let child_is : found ≡ true → at_child ≡ child_place (catch g wanted h) at 1 =
-    λ yes. child-found w.loaded (block_at w.loaded at back.base) at 1 at_child (catch g wanted h) own.last code is_code own.goal (catch-counts g h wanted 1 (omega arith))
-    (subst (λ n. (terms : ℕ → Option Tree) (q : GoalTree) → StandsAt (tables_of terms code) code.steps.items n q → 1 < child_count q → at_child ≡ child_place q n 1) same (finds yes)) in
-    let told : _ = tells at g h wanted e k at_step own stays it.state it.tables in
+    λ so. child-found w.loaded (block_at w.loaded at back.base) at 1 at_child (catch g wanted h) own.last code is_code own.goal (catch-counts g h wanted 1 (omega arith))
+    (subst (λ n. (terms : ℕ → Option Tree) (q : GoalTree) → StandsAt (tables_of terms code) code.steps.items n q → 1 < child_count q → at_child ≡ child_place q n 1) same (finds so)) in
+    let told : _ = tells at g h wanted e k at_step own stays it.state.state it.tables in
+    let ball_in : Tree = copy (next w.store.now.state) ball in
+    let rests : found ≡ true → Rests u.now.state =
+    λ so. answered-rests (with_new_variables (new_variables ball) w.store.now.state) u.now.state (evaluated wanted e w.store.now.state).tree ball_in found (news-rest (new_variables ball) w.store.now.state it.state) told.1 told.2 so in
     follows w u c back.base at back.frame at_child g h wanted ball e k es (unified (with_new_variables (new_variables ball) w.store.now.state) (evaluated wanted e w.store.now.state).tree (copy (next w.store.now.state) ball)) found now stands own it.agrees
-    told.0 told.1 child_is told.2 follows_it
+    told.0 rests child_is told.2 follows_it
 caught-in w u c back collected from place at_child slots code s kind ball found now y es it named is_code step finds tells follows_it (exit_kind one) = absurd cc
 
 pub caught : {M : Type 0} (w : World M) (b : ArenasView M) (u : StoreView M) (c : ArenasView M) (back : Back) (place at_child : ℕ) (code : Code) (s : Step) (ball : Tree) (found : Bool) (now : Now) (y : EntryData) (es : List EntryData) →
@@ -193,18 +198,18 @@ not-found found h k = cc
 
 -- the term of a `catch` is unified with a copy of the ball
 pub caught-told : {M : Type 0} (b : Block) (v v1 v2 u : StoreView M) (a a1 : ArenasView M) (wanted ball : Tree) (e : Places) (q r : Ref) (one : Bool) →
-    evaluated wanted e v.now.state ≡ record { tree = (evaluated wanted e v.now.state).tree; slots = e; state = v.now.state } → IsState v.now.state → Evaluates b (between v v1 a a1) (evaluated wanted e v.now.state) q →
+    evaluated wanted e v.now.state ≡ record { tree = (evaluated wanted e v.now.state).tree; slots = e; state = v.now.state } → Rests v.now.state → Evaluates b (between v v1 a a1) (evaluated wanted e v.now.state) q →
     Gives v1 v2 (with_variables (new_variables ball) v1.now.state) r (copy (next v1.now.state) ball) → ((p : Ref) (t : Tree) → IsTerm v2 p t → SpeaksBelow (next v2.now.state) t) → Keeps v2 u →
-    ((t x : Tree) → IsState v2.now.state → IsTerm v2 q t → IsTerm v2 r x → SpeaksBelow (next v2.now.state) t → SpeaksBelow (next v2.now.state) x → Answers (unified v2.now.state t x) one u.now.state) →
-    ((t x : Tree) → IsState v2.now.state → IsTerm v2 q t → IsTerm v2 r x → SpeaksBelow (next v2.now.state) t → SpeaksBelow (next v2.now.state) x → IsState u.now.state) →
-    Writes b (between v u a a1) e u.now.state × IsState u.now.state
+    ((t x : Tree) → Rests v2.now.state → IsTerm v2 q t → IsTerm v2 r x → SpeaksBelow (next v2.now.state) t → SpeaksBelow (next v2.now.state) x → Answers (unified v2.now.state t x) one u.now.state) →
+    ((t x : Tree) → Rests v2.now.state → IsTerm v2 q t → IsTerm v2 r x → SpeaksBelow (next v2.now.state) t → SpeaksBelow (next v2.now.state) x → Rests u.now.state) →
+    Writes b (between v u a a1) e u.now.state × Rests u.now.state
     × Answers (unified (with_new_variables (new_variables ball) v.now.state) (evaluated wanted e v.now.state).tree (copy (next v.now.state) ball)) one u.now.state
 caught-told b v v1 v2 u a a1 wanted ball e q r one again state value_is gives below keeps unifies stays =
     let x : Evaluated = evaluated wanted e v.now.state in
     let n : ℕ = new_variables ball in
     let first : v1.now.state ≡ v.now.state = value_is.writes.state ∙ ap (λ (y : Evaluated). y.state) again in
     let second : v2.now.state ≡ with_new_variables n v.now.state = gives.changes.state ∙ news-are n v1.now.state ∙ ap (with_new_variables n) first in
-    let sound : IsState v2.now.state = subst IsState (sym second) (news-keep n v.now.state state) in
+    let sound : Rests v2.now.state = subst Rests (sym second) (news-rest n v.now.state state) in
     let here : IsTerm v2 q x.tree = gives.changes.keeps.terms q x.tree value_is.term in
     let there : IsTerm v2 r (copy (next v.now.state) ball) = subst (λ m. IsTerm v2 r (copy m ball)) (ap next first) gives.term in
     let holds : Holds v1.now.terms a1.blocks.slots b e = subst (λ f. Holds v1.now.terms a1.blocks.slots b f) (ap (λ (y : Evaluated). y.slots) again) value_is.writes.holds in (

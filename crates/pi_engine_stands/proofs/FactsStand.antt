@@ -4,6 +4,7 @@ use Rattle.std.specs.Prelude.{slice_get, cond, is_some, if◌then◌else◌}
 use Rattle.std.proofs.lemmas.List.{take_all, drop-drop}
 use Rattle.pi_terms.specs.Tree.{Trees}
 use Rattle.pi_constraints.specs.State.{State, IsState}
+use Rattle.pi_engine_stands.specs.Rests.{Rests}
 use Rattle.pi_constraints.specs.Store.{StoreView, Keeps, Stays}
 use Rattle.pi_core.specs.GoalTree.{no_goals}
 use Rattle.pi_core.specs.CoreTree.{ClauseTree, PredTree}
@@ -32,6 +33,7 @@ use Rattle.pi_engine_stands.proofs.CallsTried.{call-ended}
 use Rattle.pi_engine_stands.proofs.CallsStay.{call-stays}
 use Rattle.pi_engine_stands.proofs.EqualStands.{writes-kept, stack-moved, going-moved}
 use Rattle.pi_engine_arenas.specs.Frames.{call_at}
+use Rattle.pi_engine_stands.proofs.RestLemmas.{fact-rests}
 
 -- ---- the machine as data
 
@@ -89,7 +91,7 @@ nothing-goes w v a m p base frame number called cs s k es again is predicate pas
     }
 
 pub fact-stands : {M : Type 0} (w : World M) (v u : StoreView M) (a : ArenasView M) (p base frame number : ℕ) (called : Called) (cs : List ClauseTree) (s : State) (k : List Frame) (es all : List EntryData) (again : Bool) →
-    CallIs w p base frame number called cs s k es again → called.function ≡ false → StackAfter w v a es all → open_level 0 all ≡ open_level 0 es → Keeps v u → IsState u.now.state →
+    CallIs w p base frame number called cs s k es again → called.function ≡ false → StackAfter w v a es all → open_level 0 all ≡ open_level 0 es → Keeps v u → Rests u.now.state →
     Stands (moved w u a) (Now.Going (record { place = 0; count = 0; base = base; frame = frame })) (config (going no_goals [] u.now.state k) all)
 fact-stands w v u a p base frame number called cs s k es all again is predicate after opens keeps state =
     let point : Point = record { place = 0; count = 0; base = base; frame = frame } in
@@ -97,7 +99,7 @@ fact-stands w v u a p base frame number called cs s k es all again is predicate 
     let entries : StackStands w1 all =
     record {
       code = code-keeps w.loaded.code (tables_in w.loaded) w.store.names v.names w.loaded.preds (λ i name has. after.passes.stays.keeps.names i name has) is.code;
-      state = subst IsState (sym after.passes.stays.state) is.state;
+      state = subst Rests (sym after.passes.stays.state) is.state;
       tables = λ i t has. keeps-terms w.store v after.passes.stays.keeps i t (is.tables i t has);
       level = after.passes.level ∙ is.level ∙ sym opens;
       kept = after.kept;
@@ -250,4 +252,5 @@ fact-taken w v x u b p base frame from number slots pred predicate ts cs s k es 
     subst (Stands (moved w u b) now) (sym whole)
     (subst (λ n. Stands (moved w u b) n (config (going no_goals [] found.state k) (later_facts ts rest (back_to [] s k) es))) (sym (comes ∙ ap (λ q. if q then Now.Going point else Now.Failing) told.0))
     (subst (λ r. Stands (moved w u b) (Now.Going point) (config (going no_goals [] r k) (later_facts ts rest (back_to [] s k) es))) told.1
-    (fact-stands w1 x u b p base frame from called cs s k es (later_facts ts rest (back_to [] s k) es) again is1 refl kept.after kept.opens keeps (state told.0))))
+    (fact-stands w1 x u b p base frame from called cs s k es (later_facts ts rest (back_to [] s k) es) again is1 refl kept.after kept.opens keeps
+    (subst Rests (sym told.1) (fact-rests ts s found.state found.fact found.unifies (subst IsState told.1 (state told.0)) (subst Rests (sym same) is.state))))))

@@ -27,7 +27,7 @@ use Rattle.pi_meaning.specs.Machine.Built.{AreOfRules}
 use Rattle.pi_meaning.specs.Machine.Leads.{Leads}
 use Rattle.pi_meaning.specs.Machine.Next.{some_ticks}
 use Rattle.pi_engine_stands.specs.Here.{Block, AreHere, none_here, value_here}
-use Rattle.pi_engine_stands.specs.Stands.{IsNumberOf, HasNumber, IsCodeOf, tables_in, World, steps_of, NowIs, going_now, telling_now, failing_now, raising_now, StackStands, Stands, StandsGoing, GoingIs}
+use Rattle.pi_engine_stands.specs.Stands.{IsNumberOf, HasNumber, IsCodeOf, tables_in, World, steps_of, NowIs, going_now, telling_now, failing_now, raising_now, StackBelow, Stands, StandsGoing, GoingIs}
 use Rattle.pi_engine_stands.specs.Makes.{StandsAfter, RunsGoal, RunsGoalIn}
 use Rattle.pi_engine_stands.specs.Goes.{counted, spent, TicksUnless, HasNone, IsAt, Goes, IsSpent, TicksOn, AtGoal, GoalGoes, IsSilent, counting}
 use Rattle.pi_engine_stands.proofs.FramesStand.{going-of, going-size}
@@ -41,6 +41,7 @@ use Rattle.pi_engine_stands.proofs.ApplyRuns.{Applies, applies, apply-form}
 use Rattle.pi_meaning.proofs.Machine.LeadLemmas.{leads-none, leads-silent, step-silent, step-ticks, step-enters, step-at_tick, good-silent, good-tick, step-deepens, good-deeper}
 use Rattle.pi_meaning.proofs.Machine.GoodSteps.{step-good}
 use Rattle.pi_engine_stands.specs.Changes.{change}
+use Rattle.pi_engine_stands.proofs.StacksLie.{stack-lies, below-lies}
 
 -- ---- where a run is
 
@@ -99,7 +100,7 @@ no-goal : (t : Tables) (steps : List Step) (b : Block) (place n : ℕ) (value : 
 no-goal t steps b place n value last s X at some no_value none_here = absurd (omega (arith, some))
 no-goal t steps b place n value last s X at some no_value (value_here is) = absurd (no_value is.operand (ap (λ r. r.node) (same-step (slice_get steps place) s is.step at is.stands) ∙ is.node))
 
-there : {M : Type 0} (w : World M) (p : Point) (s : Step) (x : NowData) (es : List EntryData) → slice_get (steps_of w.loaded) p.place ≡ Some s → 0 < p.count → ((o : Operand) → s.node ≢ Node.Value o) → StackStands w es → NowIs w (Now.Going p) x → GoalThere w p (config x es)
+there : {M : Type 0} (w : World M) (p : Point) (s : Step) (x : NowData) (es : List EntryData) → slice_get (steps_of w.loaded) p.place ≡ Some s → 0 < p.count → ((o : Operand) → s.node ≢ Node.Value o) → StackBelow w x es → NowIs w (Now.Going p) x → GoalThere w p (config x es)
 there w p s x es at some no_value entries (going_now {gs = no_goals} {e = e} {k = k} is) =
     no-goal (tables_in w.loaded) (steps_of w.loaded) is.block p.place p.count is.value is.last s _ at some no_value is.goals
 there w p s x es at some no_value entries (going_now {gs = goal g gs} {e = e} {k = k} is) =
@@ -288,11 +289,11 @@ found-predicate w function q code number =
 
 pub call-found : {M : Type 0} (w : World M) (p : Point) (s : Step) (c : Config) (q operands : ℕ) → AtGoal w p s c → s.node ≡ Node.Call q operands → FoundPredicate w q
 call-found w p s c q operands is node =
-    found-predicate w false q is.stands.entries.code (subst (HasNumber w.loaded.preds) node (is.stands.entries.code.numbers p.place s is.at))
+    found-predicate w false q (below-lies w c.now c.stack is.stands.entries).code (subst (HasNumber w.loaded.preds) node ((below-lies w c.now c.stack is.stands.entries).code.numbers p.place s is.at))
 
 pub apply-found : {M : Type 0} (w : World M) (p : Point) (s : Step) (c : Config) (q operands into : ℕ) → AtGoal w p s c → s.node ≡ Node.Apply q operands into → FoundPredicate w q
 apply-found w p s c q operands into is node =
-    found-predicate w true q is.stands.entries.code (subst (HasNumber w.loaded.preds) node (is.stands.entries.code.numbers p.place s is.at))
+    found-predicate w true q (below-lies w c.now c.stack is.stands.entries).code (subst (HasNumber w.loaded.preds) node ((below-lies w c.now c.stack is.stands.entries).code.numbers p.place s is.at))
 
 pub no-predicate : {M X : Type 0} (w : World M) (q : ℕ) → FoundPredicate w q → slice_get w.loaded.code.predicates.items q ≡ None → X
 no-predicate w q it none =
@@ -321,4 +322,4 @@ pub fail-step : {M : Type 0} (w : World M) (p : Point) (s : Step) (view : View) 
 unfolding node_kind goal_step
 fail-step w p s view g gs e k es node at stands =
     let it : g ≡ fail = fail-of g (kind-of-node w p s g gs e k Node.Fail at (going-of w p _ e w.store.now.state k stands.runs) node) in
-    subst (λ h. StandsAfter w Now.Failing (goal_step view w.loaded.preds h e w.store.now.state (with_rest gs k es))) (sym it) (record { entries = stands.entries; runs = failing_now })
+    subst (λ h. StandsAfter w Now.Failing (goal_step view w.loaded.preds h e w.store.now.state (with_rest gs k es))) (sym it) (record { entries = stack-lies w es stands.entries; runs = failing_now })

@@ -1,6 +1,8 @@
 pub mod HereLemmas
 pub mod PointLemmas
 pub mod StandsLemmas
+pub mod StacksLie
+pub mod RestLemmas
 pub mod GoalsStand
 pub mod FramesStand
 pub mod NodeLemmas

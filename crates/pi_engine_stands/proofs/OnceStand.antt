@@ -32,6 +32,7 @@ use Rattle.pi_engine_stands.proofs.AnswerStand.{Arrives, arrives}
 use Rattle.pi_engine_stands.proofs.LeaveStand.{LeftBy, level-behind}
 use Rattle.pi_engine_stands.proofs.EndsStand.{behind-level, second-runs, child-found, if-counts}
 use Rattle.pi_engine_stands.proofs.OpenStand.{OpenAt, nothing_at, strict_at, catch_at, open-at, back-length}
+use Rattle.pi_engine_stands.proofs.StacksLie.{stack-lies}
 
 -- steps one after the other
 pub silently-then : (view : View) (preds : List PredTree) (names : List NameSlot) (c d e : Config) → SilentlyTo view preds names c d → SilentlyTo view preds names d e → SilentlyTo view preds names c e
@@ -161,7 +162,7 @@ not-makes w b i from place x kind s back es above fs e it is below named holds (
     let left : GoalLeft w b x.back.base at x.back.frame (not g) e k fs =
     goal-left w b i from at x (strict s back) (not g) es fs f e k it (level-entry w b i x es it) is below one own
     (subst (λ q. Holds w.store.now.terms w.arenas.blocks.slots (block_at w.loaded q x.back.base) e) (sym same) holds) in
-    record { entries = left.entries; runs = failing_now }
+    record { entries = stack-lies (moved w w.store b) _ left.entries; runs = failing_now }
 not-makes w b i from place x kind s back es above fs e it is below named holds (if_kind own one) = absurd cc
 not-makes w b i from place x kind s back es above fs e it is below named holds (guard_kind call over one) = absurd cc
 not-makes w b i from place x kind s back es above fs e it is below named holds (apply_kind own free args fit one) = absurd cc

@@ -28,7 +28,7 @@ use Rattle.pi_meaning.specs.Machine.Shape.{IsGood}
 use Rattle.pi_meaning.specs.Machine.Built.{AreOfRules}
 use Rattle.pi_meaning.specs.Machine.Leads.{Leads, IsAtEnd}
 use Rattle.pi_engine_stands.specs.Here.{Block, Here, AreHere, none_here, value_here, last_here, more_here, GoesOn, answers, gives, returns_to_end, more_of_block, returns_to}
-use Rattle.pi_engine_stands.specs.Stands.{tables_in, World, steps_of, NowIs, going_now, StackStands, Stands, StandsGoing, GoingIs}
+use Rattle.pi_engine_stands.specs.Stands.{tables_in, World, steps_of, NowIs, going_now, StackBelow, Stands, StandsGoing, GoingIs}
 use Rattle.pi_engine_stands.specs.Makes.{SilentlyTo, already, one_more, GoesFrom, AnswersOpen}
 use Rattle.pi_engine_stands.specs.Answers.{AreNames, IsTold, AnswersQuery}
 use Rattle.pi_meaning.specs.Machine.Next.{Tells}
@@ -61,7 +61,7 @@ pub record DoneThere {M : Type 0} (w : World M) (p : Point) (c : Config) : Type 
   pub is : c ≡ config (going no_goals e w.store.now.state k) c.stack
   pub stands : StandsGoing w p no_goals e k c.stack
 
-done-in : {M : Type 0} (w : World M) (p : Point) (x : NowData) (es : List EntryData) → p.count ≡ 0 → StackStands w es → NowIs w (Now.Going p) x → DoneThere w p (config x es)
+done-in : {M : Type 0} (w : World M) (p : Point) (x : NowData) (es : List EntryData) → p.count ≡ 0 → StackBelow w x es → NowIs w (Now.Going p) x → DoneThere w p (config x es)
 done-in w p x es none entries (going_now {gs = no_goals} {e = e} {k = k} is) = record { e = e; k = k; is = refl; stands = record { entries = entries; runs = going_now is } }
 done-in w p x es none entries (going_now {gs = goal g gs} {e = e} {k = k} is) =
     absurd (omega (arith, none, (first-of (tables_in w.loaded) (steps_of w.loaded) is.block p.place p.count g gs is.value is.last is.goals).some))

@@ -4,7 +4,8 @@ use Rattle.std.specs.Prelude.{slice_get, codes}
 use Rattle.pi_terms.specs.Tree.{Tree, Trees, no_trees, tree, tree_count}
 use Rattle.pi_terms.specs.Places.{Places}
 use Rattle.pi_constraints.specs.Value.{IsAcyclic}
-use Rattle.pi_constraints.specs.State.{IsState, bindings, followed}
+use Rattle.pi_constraints.specs.State.{bindings, followed}
+use Rattle.pi_engine_stands.specs.Rests.{Rests}
 use Rattle.pi_constraints.specs.Store.{StoreView, IsTerm, IsName, AreTerms}
 use Rattle.pi_constraints.specs.Evaluation.{EvaluatedAll}
 use Rattle.pi_constraints.specs.declared.store.Ref.{Ref}
@@ -53,7 +54,7 @@ pub record FirstRead {M : Type 0} (u : StoreView M) (all : EvaluatedAll) (rs : L
   pub more : Trees
   pub is : all.trees ≡ tree called more
   pub are : AreTerms u rs (tree called more)
-  pub state : IsState u.now.state
+  pub state : Rests u.now.state
 
 pub first-read : {M : Type 0} (w : World M) (u : StoreView M) (b : ArenasView M) (p : Point) (s : Step) (operands arity : ℕ) (rs : List Ref) (g : GoalTree) (gs : GoalTrees) (e : Places) (k : List Frame) (es : List EntryData) →
     s.node ≡ Node.CallTerm operands arity → slice_get (steps_of w.loaded) p.place ≡ Some s → (stands : StandsGoing w p (goal g gs) e k es) →
@@ -67,7 +68,7 @@ first-read w u b p s operands arity rs g gs e k es node at stands evaluates =
       more = first.1;
       is = first.2;
       are = subst (AreTerms u rs) first.2 evaluates.terms;
-      state = subst IsState (sym evaluates.writes.state) reads.state;
+      state = subst Rests (sym evaluates.writes.state) reads.state;
     }
 
 -- what is called, told of any terms that are there
@@ -115,7 +116,7 @@ name-read u name n rs parts t ts is calls acyclic are =
     record { it = read.0; is = read.1; named = read.2; are = read.3; count = terms-count u parts read.0.args read.3 }
 
 stack-there : {M : Type 0} (w : World M) (u : StoreView M) (b : ArenasView M) (p : Point) (s : Step) (operands arity : ℕ) (rs : List Ref) (g : GoalTree) (gs : GoalTrees) (e : Places) (k : List Frame) (es : List EntryData) → (stands : StandsGoing w p (goal g gs) e k es) →
-    EvaluatesAll (block_of w p g gs e k es stands) (between w.store u w.arenas b) (term_arguments w operands arity e) rs → IsState u.now.state → StackStands (moved w u b) es
+    EvaluatesAll (block_of w p g gs e k es stands) (between w.store u w.arenas b) (term_arguments w operands arity e) rs → Rests u.now.state → StackStands (moved w u b) es
 stack-there w u b p s operands arity rs g gs e k es stands evaluates state =
     let all : EvaluatedAll = term_arguments w operands arity e in stack-moved w u b (block_of w p g gs e k es stands) all.slots all.state es evaluates.writes state stands.entries
 

@@ -2,7 +2,7 @@ use Rattle.std.proofs.Common.{◌≡◌, ◌∙◌, ◌^◌, ◌+◌, ◌<◌, S
 use Rattle.std.specs.Prelude.{slice_index_or}
 use Rattle.pi_terms.specs.Tree.{trees_of}
 use Rattle.pi_constraints.specs.Evaluation.{evaluated_all}
-use Rattle.pi_constraints.specs.State.{IsState}
+use Rattle.pi_engine_stands.specs.Rests.{Rests}
 use Rattle.pi_constraints.specs.Store.{AreTerms}
 use Rattle.pi_effects.specs.BuiltIns.{built_in_function}
 use Rattle.pi_effects.specs.Results.{ShowsEffect}
@@ -15,12 +15,12 @@ use Rattle.pi_engine_stands.specs.Here.{AreReadable}
 use Rattle.pi_engine_stands.specs.Stands.{tables_in, world}
 use Rattle.pi_engine_stands.specs.Evaluates.{EvaluatesAll}
 use Rattle.pi_engine_stands.proofs.FramesStand.{going-of, going-size}
-use Rattle.pi_engine_stands.proofs.CallLemmas.{evaluated-all-state}
 use Rattle.pi_engine_stands.proofs.CallRuns.{args-count}
 use Rattle.pi_engine_stands.proofs.EqualStands.{first-slot-of, node-readable}
 use Rattle.pi_engine_stands.proofs.BuiltInStands.{all-many, value-there, value-step, refusal-step}
 use Rattle.pi_lib.proofs.RunLemmas.{terms-count, value-raised}
 use Rattle.pi_engine_steps.proofs.built_ins.apply_built_in.Goals as goal
+use Rattle.pi_engine_stands.proofs.RestLemmas.{evaluated-all-rests}
 
 pub returns-in_ok-set-in-Ok : goal.returns-in_ok-set-in-Ok
 returns-in_ok-set-in-Ok g c = λ name node l is_code view goal gs e k es at stands.
@@ -48,7 +48,7 @@ returns-in_ok-set-in-Ok g c = λ name node l is_code view goal gs e k es at stan
     let evaluates : EvaluatesAll b (between v v1 a a1) all rs =
     subst (λ t. EvaluatesAll b (between v v1 a a1) (evaluated_all (trees_of (operand_trees t first count)) e v.now.state) rs) (sym tables)
     (c.in_ok-take_arguments.ensures.ok l.terms b e begins (subst (λ t. AreReadable t b first count) tables readable.0) stands.entries.tables is.behind.slots) in
-    let state : IsState v1.now.state = subst IsState (sym evaluates.writes.state) (evaluated-all-state (trees_of args) e v.now.state stands.entries.state) in
+    let state : Rests v1.now.state = subst Rests (sym evaluates.writes.state) (evaluated-all-rests (trees_of args) e v.now.state stands.entries.state) in
     let many : length args ≡ count = args-count T first count readable.0.0 in
     let does = value-there word count f args e v.now.state many readable.1 in
     let terms : AreTerms v1 c.deref.result.now all.trees = subst (λ qs. AreTerms v1 qs all.trees) (sym c.deref.ensures.value) evaluates.terms in
@@ -87,7 +87,7 @@ returns-in_ok-ball-in-Err g c = λ name node l is_code view goal gs e k es at st
     let evaluates : EvaluatesAll b (between v v1 a a1) all rs =
     subst (λ t. EvaluatesAll b (between v v1 a a1) (evaluated_all (trees_of (operand_trees t first count)) e v.now.state) rs) (sym tables)
     (c.in_ok-take_arguments.ensures.ok l.terms b e begins (subst (λ t. AreReadable t b first count) tables readable.0) stands.entries.tables is.behind.slots) in
-    let state : IsState v1.now.state = subst IsState (sym evaluates.writes.state) (evaluated-all-state (trees_of args) e v.now.state stands.entries.state) in
+    let state : Rests v1.now.state = subst Rests (sym evaluates.writes.state) (evaluated-all-rests (trees_of args) e v.now.state stands.entries.state) in
     let many : length args ≡ count = args-count T first count readable.0.0 in
     let does = value-there word count f args e v.now.state many readable.1 in
     let terms : AreTerms v1 c.deref.result.now all.trees = subst (λ qs. AreTerms v1 qs all.trees) (sym c.deref.ensures.value) evaluates.terms in

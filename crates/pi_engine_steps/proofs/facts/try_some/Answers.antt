@@ -2,7 +2,7 @@ use Rattle.std.proofs.Common.{◌≡◌, ◌+◌, ◌-◌, ◌≤◌, ◌∙◌,
 use Rattle.std.specs.Prelude.{slice_get}
 use Rattle.std.proofs.lemmas.Result.{IfOk-weaker}
 use Rattle.pi_terms.specs.Tree.{comp}
-use Rattle.pi_constraints.specs.State.{IsState}
+use Rattle.pi_engine_stands.specs.Rests.{Rests}
 use Rattle.pi_constraints.specs.Store.{Stays, IsTerm}
 use Rattle.pi_core.specs.CoreTree.{clause_tree}
 use Rattle.pi_unify.proofs.KeepsLemmas.{stays_then}
@@ -66,7 +66,7 @@ returns g c = IfOk-weaker c.take_fact.result _ _ (λ _ so l is_code pred ts cs s
     subst (λ (code : Code). HaveKeys v.names code.keys call.predicate facts predicate.first) is_code
     (facts-keyed w call.predicate call.base call.frame c.args.from (record { function = false; args = ts }) cs s k es again pred predicate facts is at there clauses) in
     let stays1 : Stays v v1 = c.in_ok-found.ensures.stays ts is.state term in
-    let state1 : IsState v1.now.state = subst IsState (sym stays1.state) is.state in
+    let state1 : Rests v1.now.state = subst Rests (sym stays1.state) is.state in
     let term1 : IsTerm v1 asked (comp [] ts) = stays1.keeps.terms asked (comp [] ts) term in
     let found : IsFirst ts s (numbered (map clause_tree facts) predicate.first predicate.end) c.args.from number =
     subst (λ r. IsFirst ts r (numbered (map clause_tree facts) predicate.first predicate.end) c.args.from number) (sym same)
