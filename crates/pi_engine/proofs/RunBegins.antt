@@ -54,7 +54,7 @@ run-begins l v order trail place g code empty same here =
     record {
       entries = record {
         code = code;
-        state = subst Rests (sym empty) empty-is-state;
+        state = subst Rests (sym empty) (record { state = empty-is-state; none_posted = refl; none_made = refl });
         tables = λ n x at. ap (λ t. t n) (sym same) ∙ at;
         level = refl;
         kept = refl;

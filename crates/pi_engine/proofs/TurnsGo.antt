@@ -26,13 +26,14 @@ use Rattle.pi_engine_stands.specs.Goes.{counted, IsAt, Goes, IsSpent, TicksOn, I
 use Rattle.pi_meaning.specs.Machine.Leads.{Leads}
 use Rattle.pi_meaning.specs.Machine.Next.{Tells, some_ticks}
 use Rattle.pi_meaning.specs.Machine.Shape.{IsGood}
-use Rattle.pi_engine_stands.specs.Stands.{World, GoingIs, NowIs, going_now, telling_now, failing_now, raising_now, Stands}
+use Rattle.pi_engine_stands.specs.Stands.{World, GoingIs, NowIs, going_now, telling_now, failing_now, raising_now, Stands, StackBelow}
 use Rattle.pi_meaning.specs.Machine.Step.{Outcome, silently, with_tick, quietly, deeper, writing, answering, ending, fail_step, raise_step, step}
 use Rattle.pi_engine.specs.Turns.{StepIs, StepStops}
 use Rattle.pi_engine_stands.proofs.GoalsGo.{is-at, none-counted, unspent, silent-goes}
 use Rattle.pi_meaning.proofs.Machine.LeadLemmas.{leads-none, leads-on, step-ends, step-writes, good-writing}
 use Rattle.pi_engine_stands.proofs.PointsDone.{GoesSilently}
 use Rattle.pi_engine_stands.specs.Changes.{change}
+use Rattle.pi_engine_stands.proofs.StacksLie.{below-lies}
 
 -- ---- no further answer, and exceptions
 
@@ -116,7 +117,7 @@ told-is w v names mode b told c is =
       comes = next;
       leads = step-writes v w.loaded.preds names c next told.value.text is.rules is.good writes;
       good = good-writing v w.loaded.preds names c next told.value.text is.good writes;
-      is = record { entries = stands.entries; runs = going_now it.4 };
+      is = record { entries = subst (λ x. StackBelow w x c.stack) it.3 stands.entries; runs = going_now it.4 };
     } in
     record { is = subst (λ k. Goes v names (some_ticks k ++ noted (Out told.value.text) ∷ []) w (Now.Going told.value.point) c) (sym (none-counted mode b b refl)) goes; spent = tt }
 
@@ -138,7 +139,7 @@ fails-step v preds names c is = ap (λ x. step v preds names (config x c.stack))
 
 pub fails-is : {M : Type 0} (w after : World M) (v : View) (names : List NameSlot) (mode : Mode) (b : Budget) (now : Now) (c : Config) → w.loaded ≡ after.loaded → IsIn v names w Now.Failing c → Fails (change w after now) → StepIs v names mode b b after now c CodeOutcome.More
 fails-is w after v names mode b now c same is fails =
-    let to : ComesTo after now (fail_step c.stack) = fails c.stack is.is.entries in
+    let to : ComesTo after now (fail_step c.stack) = fails c.stack (below-lies w c.now c.stack is.is.entries) in
     more-is v names mode b after now c
     (comes-to-goes v names after now c (fail_step c.stack) (subst (λ l. AreOfRules l.preds) same is.rules) is.good (fails-step v after.loaded.preds names c (failing-is w c.now Now.Failing refl is.is.runs)) to)
     (comes-to-unspent after mode b now (fail_step c.stack) to)
@@ -157,7 +158,7 @@ raises-step v preds names c ball is = ap (λ x. step v preds names (config x c.s
 pub raises-is : {M : Type 0} (w after : World M) (v : View) (names : List NameSlot) (mode : Mode) (b : Budget) (old now : Now) (ball : Tree) (c : Config) → w.loaded ≡ after.loaded → old ≡ Now.Raising ball → IsIn v names w old c → Raises old (change w after now) → StepIs v names mode b b after now c CodeOutcome.More
 raises-is w after v names mode b old now ball c same raised is raises =
     let stands : Stands w (Now.Raising ball) c = subst (λ n. IsAt v names w n c) raised is.is in
-    let to : ComesTo after now (raise_step ball c.stack) = raises ball c.stack raised stands.entries is.good.balanced in
+    let to : ComesTo after now (raise_step ball c.stack) = raises ball c.stack raised (below-lies w c.now c.stack stands.entries) is.good.balanced in
     more-is v names mode b after now c
     (comes-to-goes v names after now c (raise_step ball c.stack) (subst (λ l. AreOfRules l.preds) same is.rules) is.good (raises-step v after.loaded.preds names c ball (raising-is w c.now (Now.Raising ball) ball refl stands.runs)) to)
     (comes-to-unspent after mode b now (raise_step ball c.stack) to)

@@ -4,7 +4,7 @@ use Rattle.std.specs.Prelude.{slice_get, if◌then◌else◌}
 use Rattle.pi_terms.specs.Tree.{Tree}
 use Rattle.pi_terms.specs.Places.{Places}
 use Rattle.pi_terms.specs.Copy.{copy, new_variables}
-use Rattle.pi_constraints.specs.State.{State, SpeaksBelow, next, with_new}
+use Rattle.pi_constraints.specs.State.{State, SpeaksBelow, next, with_new, IsState}
 use Rattle.pi_engine_stands.specs.Rests.{Rests}
 use Rattle.pi_constraints.specs.declared.store.Ref.{Ref}
 use Rattle.pi_unify.proofs.KeepsLemmas.{keeps_then}
@@ -42,6 +42,7 @@ use Rattle.pi_engine_stands.proofs.WrittenGoals.{own-step, GoalWritten, goal-wri
 use Rattle.pi_engine_stands.specs.Changes.{change}
 use Rattle.pi_engine_stands.proofs.RestLemmas.{news-rest, answered-rests}
 use Rattle.pi_engine_stands.proofs.StacksLie.{stack-lies}
+use Rattle.pi_constraints.proofs.KeepsLemmas.{news-keep}
 
 -- ---- the handler
 
@@ -198,18 +199,18 @@ not-found found h k = cc
 
 -- the term of a `catch` is unified with a copy of the ball
 pub caught-told : {M : Type 0} (b : Block) (v v1 v2 u : StoreView M) (a a1 : ArenasView M) (wanted ball : Tree) (e : Places) (q r : Ref) (one : Bool) →
-    evaluated wanted e v.now.state ≡ record { tree = (evaluated wanted e v.now.state).tree; slots = e; state = v.now.state } → Rests v.now.state → Evaluates b (between v v1 a a1) (evaluated wanted e v.now.state) q →
+    evaluated wanted e v.now.state ≡ record { tree = (evaluated wanted e v.now.state).tree; slots = e; state = v.now.state } → IsState v.now.state → Evaluates b (between v v1 a a1) (evaluated wanted e v.now.state) q →
     Gives v1 v2 (with_variables (new_variables ball) v1.now.state) r (copy (next v1.now.state) ball) → ((p : Ref) (t : Tree) → IsTerm v2 p t → SpeaksBelow (next v2.now.state) t) → Keeps v2 u →
-    ((t x : Tree) → Rests v2.now.state → IsTerm v2 q t → IsTerm v2 r x → SpeaksBelow (next v2.now.state) t → SpeaksBelow (next v2.now.state) x → Answers (unified v2.now.state t x) one u.now.state) →
-    ((t x : Tree) → Rests v2.now.state → IsTerm v2 q t → IsTerm v2 r x → SpeaksBelow (next v2.now.state) t → SpeaksBelow (next v2.now.state) x → Rests u.now.state) →
-    Writes b (between v u a a1) e u.now.state × Rests u.now.state
+    ((t x : Tree) → IsState v2.now.state → IsTerm v2 q t → IsTerm v2 r x → SpeaksBelow (next v2.now.state) t → SpeaksBelow (next v2.now.state) x → Answers (unified v2.now.state t x) one u.now.state) →
+    ((t x : Tree) → IsState v2.now.state → IsTerm v2 q t → IsTerm v2 r x → SpeaksBelow (next v2.now.state) t → SpeaksBelow (next v2.now.state) x → IsState u.now.state) →
+    Writes b (between v u a a1) e u.now.state × IsState u.now.state
     × Answers (unified (with_new_variables (new_variables ball) v.now.state) (evaluated wanted e v.now.state).tree (copy (next v.now.state) ball)) one u.now.state
 caught-told b v v1 v2 u a a1 wanted ball e q r one again state value_is gives below keeps unifies stays =
     let x : Evaluated = evaluated wanted e v.now.state in
     let n : ℕ = new_variables ball in
     let first : v1.now.state ≡ v.now.state = value_is.writes.state ∙ ap (λ (y : Evaluated). y.state) again in
     let second : v2.now.state ≡ with_new_variables n v.now.state = gives.changes.state ∙ news-are n v1.now.state ∙ ap (with_new_variables n) first in
-    let sound : Rests v2.now.state = subst Rests (sym second) (news-rest n v.now.state state) in
+    let sound : IsState v2.now.state = subst IsState (sym second) (news-keep n v.now.state state) in
     let here : IsTerm v2 q x.tree = gives.changes.keeps.terms q x.tree value_is.term in
     let there : IsTerm v2 r (copy (next v.now.state) ball) = subst (λ m. IsTerm v2 r (copy m ball)) (ap next first) gives.term in
     let holds : Holds v1.now.terms a1.blocks.slots b e = subst (λ f. Holds v1.now.terms a1.blocks.slots b f) (ap (λ (y : Evaluated). y.slots) again) value_is.writes.holds in (

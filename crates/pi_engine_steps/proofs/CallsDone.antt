@@ -2,7 +2,7 @@
 use Rattle.std.proofs.Common.{Result, Ok, Err, refl, sym, subst}
 use Rattle.std.specs.Prelude.{IfOk}
 use Rattle.pi_terms.specs.Tree.{Tree}
-use Rattle.pi_engine_stands.specs.Rests.{Rests}
+use Rattle.pi_constraints.specs.State.{IsState}
 use Rattle.pi_constraints.specs.Store.{StoreView}
 use Rattle.pi_effects.specs.Effect.{Effect}
 use Rattle.pi_effects.specs.declared.fault.Stop.{Stop}
@@ -21,7 +21,7 @@ done-comes v w mode p Outcome.Yes e now shows is = subst (λ d. ComesNext mode p
 done-comes v w mode p Outcome.No e now shows is = subst (λ d. ComesNext mode p d w.now.state now) (sym shows) is
 done-comes v w mode p (Outcome.Out text) e now shows is = subst (λ d. ComesNext mode p d w.now.state now) (sym shows) (refl, is)
 
-pub raised-comes : {M : Type 0} (v w : StoreView M) (mode : Mode) (p : Point) (stop : Stop) (e : Effect) (made : Tree) → Rests v.now.state → ShowsOutcome v w (Err stop) e → IsRaised w stop made → ComesNext mode p e w.now.state (Now.Raising made)
+pub raised-comes : {M : Type 0} (v w : StoreView M) (mode : Mode) (p : Point) (stop : Stop) (e : Effect) (made : Tree) → IsState v.now.state → ShowsOutcome v w (Err stop) e → IsRaised w stop made → ComesNext mode p e w.now.state (Now.Raising made)
 raised-comes v w mode p stop e made state shows is = subst (λ d. ComesNext mode p d w.now.state (Now.Raising made)) (sym (step-raised v w stop e made state shows is).0) refl
 
 -- what two clauses of a call that comes last say together

@@ -39,11 +39,12 @@ use Rattle.pi_engine_stands.proofs.StandsLemmas.{moved}
 use Rattle.pi_meaning.proofs.Machine.StackLemmas.{number_of, newest-number}
 use Rattle.pi_terms.proofs.OptionLemmas.{none-some, same-some, not-less}
 use Rattle.pi_engine_stands.proofs.SlotsStand.{writes-none, writes-then}
-use Rattle.pi_engine_stands.proofs.EqualStands.{stack-moved}
+use Rattle.pi_engine_stands.proofs.EqualStands.{lies-moved}
 use Rattle.pi_engine_stands.proofs.AnswerStand.{Arrives, arrives}
 use Rattle.pi_engine_stands.specs.Changes.{change}
 use Rattle.pi_engine_arenas.specs.declared.run.Now.{Now}
 use Rattle.pi_engine_stands.proofs.RestLemmas.{evaluated-rests}
+use Rattle.pi_engine_stands.proofs.StacksLie.{stack-lies}
 
 -- ---- slots that are read one after the other
 
@@ -146,7 +147,7 @@ tells-none b v a names e values none holds state =
       slots = e;
       writes = writes-none b v a e holds;
       state = state;
-      later = later-none v.now.state e state.acyclic;
+      later = later-none v.now.state e state.state.acyclic;
       all = ap (λ xs. xs ++ named_values names e v.now.state) none;
       fit = refl;
     }
@@ -167,7 +168,7 @@ tells-more b v w u a c d names e i values new n x at state before one pushed =
     let left : drop i names ≡ n ∷ drop (i + 1) names = drop-first names i n at in
     let now : u.now.state ≡ y.state = one.0.state in
     let there : Writes b (between w u c d) y.slots u.now.state = subst (λ q. Writes b (between w u c d) y.slots q) (sym now) one.0 in
-    let few : cells (slot_value n.slot e v.now.state) ≤ most_cells = subst (λ k. k ≤ most_cells) (as-many v.now.state w.now.state n.slot e before.slots state.acyclic before.later) one.1.1 in
+    let few : cells (slot_value n.slot e v.now.state) ≤ most_cells = subst (λ k. k ≤ most_cells) (as-many v.now.state w.now.state n.slot e before.slots state.state.acyclic before.later) one.1.1 in
     record {
       slots = y.slots;
       writes = writes-then b v w u a c d before.slots y.slots w.now.state u.now.state before.writes there;
@@ -227,8 +228,8 @@ query-told w u c names i answer p view e k es tells domains all stands none last
       there.silently,
       (
         query-answer w view names f w.store.now.state es open_none ∙ ap (λ q. told_step q x es) (done.fit ∙ ap (λ ns. fits ns x) nothing),
-        told-whole names x u.now.state answer stands.entries.state.acyclic done.later.state values domains,
-        record { entries = stack-moved w u c (query_block w.loaded.query_slots) done.slots u.now.state es done.writes done.state stands.entries; runs = failing_now },
+        told-whole names x u.now.state answer stands.entries.state.state.acyclic done.later.state values domains,
+        record { entries = lies-moved w u c (query_block w.loaded.query_slots) done.slots u.now.state es done.writes (stack-lies w es stands.entries); runs = failing_now },
       ),
     )
 
@@ -245,7 +246,7 @@ query-raises w after u z c d names i values n ball p view e k es tells at one ra
     let x : Solution = record { slots = f; state = s } in
     let done : TellsFirst b w.store u w.arenas c names f i values = tells w.loaded.query_slots f are there.holds stands.entries.state in
     let large : NamesValue b (between u z c d) n (evaluated (var n.slot) done.slots u.now.state) None = one b done.slots refl refl (names-at w.loaded.query_slots names i n are at) done.writes.holds done.state in
-    let many : most_cells < cells (slot_value n.slot f s) = subst (λ m. most_cells < m) (as-many s u.now.state n.slot f done.slots stands.entries.state.acyclic done.later) large.1 in
+    let many : most_cells < cells (slot_value n.slot f s) = subst (λ m. most_cells < m) (as-many s u.now.state n.slot f done.slots stands.entries.state.state.acyclic done.later) large.1 in
     let open_none : newest_open zero es ≡ none_open = no-open es (newest_open zero es) refl (newest-number zero es ∙ sym stands.entries.level ∙ level) in
     let not_fit : fits names x ≡ false = done.fit ∙ ap (λ ns. fits ns x) (drop-first names i n at) ∙ fits-not n (drop (i + 1) names) x many in (
       x,
@@ -266,7 +267,7 @@ name-read b v w a c n e slot r read found base first within holds state at reads
     let got : Evaluates b (between v w a c) y r =
     subst (λ q. Evaluates b (between v w a c) q r) (sym (slot-is n.slot e v.now.state)) (reads b n.slot e (at ∙ ap (λ m. slot_number m n.slot) zero_is) within holds) in
     let sound : Rests w.now.state = subst Rests (sym got.writes.state) (evaluated-rests (var n.slot) e v.now.state state) in
-    (got.writes, subst (λ q. IsNamed n (value (bindings q) y.tree) found) got.writes.state (names (value (bindings w.now.state) y.tree) (tells y.tree got.term sound.acyclic)))
+    (got.writes, subst (λ q. IsNamed n (value (bindings q) y.tree) found) got.writes.state (names (value (bindings w.now.state) y.tree) (tells y.tree got.term sound.state.acyclic)))
 
 pub read-named : (n : NameSlot) (name : List ℕ) (read : Option Tree) (x t : Tree) → read ≡ Some x → name ≡ n.name → IsRead t read → IsNamed n t (Some (record { name = name; value = x }))
 read-named n name read x t is same h =

@@ -1,8 +1,7 @@
 -- What the functions that try the facts of a call owe.
 use Rattle.std.specs.Prelude.{◌≡◌, ℕ, Bool, true, false, List, [], Some, map, slice_get, if◌then◌else◌}
 use Rattle.pi_terms.specs.Tree.{Trees, comp}
-use Rattle.pi_constraints.specs.State.{State}
-use Rattle.pi_engine_stands.specs.Rests.{Rests}
+use Rattle.pi_constraints.specs.State.{State, IsState}
 use Rattle.pi_constraints.specs.Store.{StoreView, IsTerm, Keeps}
 use Rattle.pi_constraints.specs.declared.store.Ref.{Ref}
 use Rattle.pi_core.specs.CoreTree.{ClauseTree, PredTree, clause_tree}
@@ -22,7 +21,7 @@ pub record TakesFact {M : Type 0} (v u : StoreView M) (ts : Trees) (c : ClauseTr
   pub one : Bool
   pub keeps : Keeps v u
   pub answers : Answers (with_fact ts v.now.state c) one u.now.state
-  pub sound : one ≡ true → Rests u.now.state
+  pub sound : one ≡ true → IsState u.now.state
   pub next : now ≡ (if one then Now.Going (record { place = 0; count = 0; base = call.base; frame = call.frame }) else Now.Failing)
 
 -- what is asked of a predicate's facts: the predicate, the facts, and the term whose arguments are those of the call

@@ -1,6 +1,6 @@
 //! Calls of built-in predicates and functions.
 ghost use Rattle.std.specs.Prelude.{◌≡◌, ℕ, IfOk};
-ghost use Rattle.pi_engine_stands.specs.Rests.{Rests};
+ghost use Rattle.pi_constraints.specs.State.{IsState};
 ghost use Rattle.pi_constraints.specs.Store.{StoreView};
 ghost use Rattle.pi_effects.specs.Effect.{Effect};
 ghost use Rattle.pi_engine_code.specs.declared.code.Node.{Node};
@@ -53,7 +53,7 @@ fn next_of<S: StateStore>(
     outcome: Result<Outcome, Stop>,
     behind: Point,
 ) -> Result<Now, AllocError>
-    ensures { IfOk result (λ now. (v : StoreView S.Mark) (e : Effect) → Rests v.now.state →
+    ensures { IfOk result (λ now. (v : StoreView S.Mark) (e : Effect) → IsState v.now.state →
         ShowsOutcome v (S.seen store.now) outcome e → ComesNext mode behind e (S.seen store.now).now.state now) }
 {
     match outcome {

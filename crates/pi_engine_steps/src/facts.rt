@@ -2,8 +2,7 @@
 ghost use Rattle.std.specs.Prelude.{◌≡◌, ◌+◌, ◌≤◌, ◌<◌, true, false, [], List, Some, IfOk, if◌then◌else◌, length, map, slice_get};
 ghost use Rattle.std.specs.List.{list_any};
 ghost use Rattle.pi_terms.specs.Tree.{Trees, comp};
-ghost use Rattle.pi_constraints.specs.State.{bindings};
-ghost use Rattle.pi_engine_stands.specs.Rests.{Rests};
+ghost use Rattle.pi_constraints.specs.State.{IsState, bindings};
 ghost use Rattle.pi_constraints.specs.Value.{IsAcyclic};
 ghost use Rattle.pi_constraints.specs.Store.{IsTerm, Stays};
 ghost use Rattle.pi_core.specs.CoreTree.{PredTree, clause_tree, pred_tree};
@@ -226,7 +225,7 @@ fn take_fact<S: StateStore>(
 ) -> Result<(), AllocError>
     ensures arenas { run.new.arenas ≡ run.old.arenas }
     ensures takes { IfOk result (λ _. (d : Clause) (ts : Trees) → slice_get facts.now place ≡ Some d →
-        Rests (state_in S.seen run.old) → IsTerm (S.seen run.old.store) asked (comp [] ts) →
+        IsState (state_in S.seen run.old) → IsTerm (S.seen run.old.store) asked (comp [] ts) →
         TakesFact (S.seen run.old.store) (S.seen run.new.store) ts (clause_tree d) call.now run.new.now) }
 {
     let Some(fact) = facts.get(place as usize) else {
@@ -244,7 +243,7 @@ fn make_fact<S: StateStore>(
     asked: Ref,
 ) -> Result<(), AllocError>
     ensures arenas { run.new.arenas ≡ run.old.arenas }
-    ensures takes { IfOk result (λ _. (ts : Trees) → Rests (state_in S.seen run.old) →
+    ensures takes { IfOk result (λ _. (ts : Trees) → IsState (state_in S.seen run.old) →
         IsTerm (S.seen run.old.store) asked (comp [] ts) →
         TakesFact (S.seen run.old.store) (S.seen run.new.store) ts (clause_tree fact.now) call.now run.new.now) }
 {

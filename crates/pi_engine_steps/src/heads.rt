@@ -6,8 +6,7 @@ ghost use Rattle.pi_terms.specs.PatternTree.{PatternTree, PatternTrees};
 ghost use Rattle.pi_core.specs.CoreTree.{pattern_trees};
 ghost use Rattle.pi_constraints.specs.HeadMatch.{matched_in, matched_all_in, filled_in};
 ghost use Rattle.pi_meaning.specs.CoreMeaning.Sound.{pattern_count};
-ghost use Rattle.pi_constraints.specs.State.{bindings};
-ghost use Rattle.pi_engine_stands.specs.Rests.{Rests};
+ghost use Rattle.pi_constraints.specs.State.{IsState, bindings};
 ghost use Rattle.pi_constraints.specs.Store.{IsTerm};
 ghost use Rattle.pi_unify.specs.Matching.{is_int_in};
 ghost use Rattle.pi_engine_code.specs.declared.code.HeadTest.TheVariants.{Deep};
@@ -106,7 +105,7 @@ fn matches_patterns<S: StateStore>(
 ) -> Result<bool, AllocError>
     ensures { IfOk result (λ found. (b : Block) (ts : Trees) → length blocks.old.slots ≡ b.base + b.first →
         base + length patterns.now ≤ b.base + b.first → b.count ≡ count → blocks.old.kept ≤ b.base + b.first →
-        Rests (S.seen store.now).now.state → HoldsArguments (S.seen store.now).now.terms blocks.old.slots base
+        IsState (S.seen store.now).now.state → HoldsArguments (S.seen store.now).now.terms blocks.old.slots base
         (length patterns.now) ts → FillsHead (S.seen store.now).now.terms blocks.old blocks.new b found
         (matched_all_in (bindings (S.seen store.now).now.state) (pattern_trees patterns.now) ts (replicate count None))) }
 {

@@ -55,7 +55,7 @@ returns-in_ok-set-in-Ok g c = λ name node l is_code view goal gs e k es at stan
     let long : length c.deref.result.now ≡ function_arity f = ap length c.deref.ensures.value ∙ terms-count v1 rs all.trees evaluates.terms ∙ all-many args e v.now.state count many ∙ sym readable.1.takes in
     let done : built_in_function (function_name f) all.trees v1.now.state ≡ Some does.0 =
     ap (λ x. built_in_function (function_name f) all.trees x) evaluates.writes.state ∙ sym (readable.1.same all.trees all.state (all-many args e v.now.state count many)) ∙ does.1 in
-    let shows : ShowsEffect v1 v2 (Ok c.in-Ok.made) does.0 = subst (λ r. ShowsEffect v1 v2 r does.0) c.in-Ok.is (c.call_function.ensures.shows all.trees does.0 state.acyclic terms long done) in
+    let shows : ShowsEffect v1 v2 (Ok c.in-Ok.made) does.0 = subst (λ r. ShowsEffect v1 v2 r does.0) c.in-Ok.is (c.call_function.ensures.shows all.trees does.0 state.state.acyclic terms long done) in
     let size = going-size w p s goal gs e k at is in
     let fit : p.place + s.size < 2 ^ 32 = omega (arith, size.0, size.1) in
     value-step w v1 v2 a1 c.set.new.self p c.behind.result s f name first count c.args.into c.first_slot-first.result c.slot_at.result rs c.in-Ok.made shows.0 shows.1 view goal gs e k es node at stands evaluates (does.1 ∙ ap Some shows.2) shows.3 readable.2 begins
@@ -94,6 +94,6 @@ returns-in_ok-ball-in-Err g c = λ name node l is_code view goal gs e k es at st
     let long : length c.deref.result.now ≡ function_arity f = ap length c.deref.ensures.value ∙ terms-count v1 rs all.trees evaluates.terms ∙ all-many args e v.now.state count many ∙ sym readable.1.takes in
     let done : built_in_function (function_name f) all.trees v1.now.state ≡ Some does.0 =
     ap (λ x. built_in_function (function_name f) all.trees x) evaluates.writes.state ∙ sym (readable.1.same all.trees all.state (all-many args e v.now.state count many)) ∙ does.1 in
-    let shows : ShowsEffect v1 v2 (Err c.in-Err.stop) does.0 = subst (λ r. ShowsEffect v1 v2 r does.0) c.in-Err.is (c.call_function.ensures.shows all.trees does.0 state.acyclic terms long done) in
-    let told = value-raised v1 v2 c.in-Err.stop does.0 c.in_ok-ball-in-Err.ball state.acyclic shows c.in_ok-ball-in-Err.ensures in
+    let shows : ShowsEffect v1 v2 (Err c.in-Err.stop) does.0 = subst (λ r. ShowsEffect v1 v2 r does.0) c.in-Err.is (c.call_function.ensures.shows all.trees does.0 state.state.acyclic terms long done) in
+    let told = value-raised v1 v2 c.in-Err.stop does.0 c.in_ok-ball-in-Err.ball state.state.acyclic shows c.in_ok-ball-in-Err.ensures in
     refusal-step w v1 v2 a1 p s f name first count c.args.into rs c.in_ok-ball-in-Err.ball view goal gs e k es node at stands evaluates told.1 (does.1 ∙ ap Some told.0)

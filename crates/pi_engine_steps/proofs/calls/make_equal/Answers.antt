@@ -19,6 +19,7 @@ use Rattle.pi_engine_stands.proofs.EqualStands.{first-slot-of, node-readable, bo
 use Rattle.pi_engine_steps.proofs.calls.make_equal.Goals as goal
 use Rattle.pi_engine_steps.proofs.calls.make_equal.Goals.{then-one, else-one}
 use Rattle.pi_engine_stands.proofs.RestLemmas.{evaluated-rests}
+use Rattle.pi_constraints.specs.State.{IsState}
 
 pub returns : goal.returns
 returns g c = λ node l is_code view goal gs e k es at stands.
@@ -54,9 +55,9 @@ returns g c = λ node l is_code view goal gs e k es at stands.
     let below = c.look-root.ensures.below in
     let answers : Answers (unified y.state x.tree y.tree) c.in_ok-one.one (g.S.StateStore.seen c.unify.new.s).now.state =
     subst (λ q. Answers (unified q x.tree y.tree) c.in_ok-one.one (g.S.StateStore.seen c.unify.new.s).now.state) both.writes.state
-    (c.in_ok-one.ensures.unifies x.tree y.tree state here both.term (below c.in_ok-a.a x.tree here) (below c.in_ok-b.b y.tree both.term)) in
-    let sound : Rests (g.S.StateStore.seen c.unify.new.s).now.state =
-    c.in_ok-one.ensures.state x.tree y.tree state here both.term (below c.in_ok-a.a x.tree here) (below c.in_ok-b.b y.tree both.term) in
+    (c.in_ok-one.ensures.unifies x.tree y.tree state.state here both.term (below c.in_ok-a.a x.tree here) (below c.in_ok-b.b y.tree both.term)) in
+    let sound : IsState (g.S.StateStore.seen c.unify.new.s).now.state =
+    c.in_ok-one.ensures.state x.tree y.tree state.state here both.term (below c.in_ok-a.a x.tree here) (below c.in_ok-b.b y.tree both.term) in
     let size = going-size w p s goal gs e k at is in
     let fits : p.place + s.size < 2 ^ 32 = omega (arith, size.0, size.1) in
     let next : c.if-one.next ≡ (if c.in_ok-one.one then Now.Going (point_behind p s) else Now.Failing) =
