@@ -7,6 +7,7 @@ pub mod ItemsBelow
 pub mod KeepsGoals
 pub mod KeepsRules
 pub mod MeaningLemmas
+pub mod PlainLemmas
 pub mod QueryLemmas
 pub mod QuietCalls
 pub mod QuietGoals

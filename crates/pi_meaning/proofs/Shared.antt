@@ -4,6 +4,7 @@ pub mod FoundLemmas
 pub mod KnownLemmas
 pub mod LevelLemmas
 pub mod NamesApart
+pub mod SettleLemmas
 pub mod WholeExamples
 pub mod WholeLemmas
 pub mod TableLemmas

@@ -14,7 +14,6 @@ use Rattle.pi_core.specs.GoalTree.{GoalTree, truth, fail, tick, call, apply, seq
 use Rattle.pi_traces.specs.Trace.{Trace, end, note, ans, Done, Raise, Deep, Tick, noted, answered, alt, then, first}
 use Rattle.pi_traces.specs.Depth.{Spent, Ended, cut}
 use Rattle.pi_traces.specs.Control.{negated, chosen, collected, counted, caught}
-use Rattle.pi_meaning.specs.Shared.Settle.{settled}
 use Rattle.pi_meaning.specs.Shared.Drain.{drained}
 use Rattle.pi_constraints.specs.Evaluation.{evaluated, evaluated_all, with_new_variables}
 use Rattle.pi_constraints.specs.HeadMatch.{matched_in, matched_all_in}
@@ -47,6 +46,12 @@ use Rattle.pi_core.specs.declared.core_program.SlotWatch.{SlotWatch}
 use Rattle.pi_meaning.specs.CoreMeaning.Quiet.{Callee, Passes, Reaches, ReachesFrom, TicksBetween}
 use Rattle.pi_meaning.specs.CoreMeaning.Rules.{watch_trees, pred_run, function_run, calls_of, rules, quiet_level, level_at}
 use Rattle.pi_meaning.specs.CoreMeaning.Run.{Solution, told, query_trace}
+use Rattle.pi_meaning.specs.Shared.Settle.{settled, settlement, is_unchanged, are_unchanged}
+use Rattle.pi_settling.specs.Settle.{settlement as settlement_of_goal, stable_state, passes, runs_of}
+use Rattle.pi_settling.specs.Settled.{loaded}
+use Rattle.pi_settling.specs.Load.{count_due, same_domain}
+use Rattle.pi_settling.specs.Events.{events_from, variable_events}
+use Rattle.pi_settling.specs.Answers.{activations, activations_from}
 
 -- the goal X = n, for the X of a slot
 abbrev number_is : ℕ → ℕ → GoalTree
@@ -92,14 +97,14 @@ rules-in_order :
     × (cut 0 (trace_of (p_program true) (goal_of (codes "p") (var 0)) 1 1) ≡ record { events = []; stop = Spent })
     × (cut 1 (trace_of (p_program true) (goal_of (codes "p") (var 0)) 1 1)
     ≡ record { events = noted Tick ∷ answered (number_answer 1) ∷ answered (number_answer 2) ∷ []; stop = Ended Done })
-unfolding query_trace told draining strictly calling applying collecting counting catching pred_run function_run calls_of level_at quiet_level rules find_pred meaning meaning_of_all meaning_of_any effect function_effect built_in_predicate built_in_function tests comparing_tests kind_tests writing_predicates other_predicates reading_functions integer_functions collection_functions sorting_functions index_functions range_functions naming_functions text_functions making_functions done_by list_of_copies new_in_all with_new_variables then alt first chosen negated caught collected counted cut evaluated evaluated_all matched_in matched_all_in drained settled thrown exception_with raised_with copy occurrences firsts all_unified unified_for outcome assigned joined in_pairs most_pairs unbound_in cells_of_pairs cells value rounds instance followed followed_for order tree_count each_tree predicate_given predicate_called function_given called_at_level first_called later_predicates is_later_predicate is_later_function has_line is_predicate
+unfolding query_trace told draining strictly calling applying collecting counting catching pred_run function_run calls_of level_at quiet_level rules find_pred meaning meaning_of_all meaning_of_any effect function_effect built_in_predicate built_in_function tests comparing_tests kind_tests writing_predicates other_predicates reading_functions integer_functions collection_functions sorting_functions index_functions range_functions naming_functions text_functions making_functions done_by list_of_copies new_in_all with_new_variables then alt first chosen negated caught collected counted cut evaluated evaluated_all matched_in matched_all_in drained settled settlement is_unchanged are_unchanged settlement_of_goal stable_state passes runs_of loaded count_due same_domain events_from variable_events activations activations_from thrown exception_with raised_with copy occurrences firsts all_unified unified_for outcome assigned joined in_pairs most_pairs unbound_in cells_of_pairs cells value rounds instance followed followed_for order tree_count each_tree predicate_given predicate_called function_given called_at_level first_called later_predicates is_later_predicate is_later_function has_line is_predicate
 rules-in_order = (refl, refl, refl, refl, refl)
 
 -- Matching binds no variable of the call.
 matching-binds_none :
     (trace_of q_program (goal_of (codes "q") (var 0)) 1 1 ≡ note Tick (end Done))
     × (trace_of q_program (goal_of (codes "q") (int (pos 1))) 0 1 ≡ note Tick (ans (record { slots = []; state = empty_state }) (end Done)))
-unfolding query_trace told draining strictly calling applying collecting counting catching pred_run function_run calls_of level_at quiet_level rules find_pred meaning meaning_of_all meaning_of_any effect function_effect built_in_predicate built_in_function tests comparing_tests kind_tests writing_predicates other_predicates reading_functions integer_functions collection_functions sorting_functions index_functions range_functions naming_functions text_functions making_functions done_by list_of_copies new_in_all with_new_variables then alt first chosen negated caught collected counted cut evaluated evaluated_all matched_in matched_all_in drained settled thrown exception_with raised_with copy occurrences firsts all_unified unified_for outcome assigned joined in_pairs most_pairs unbound_in cells_of_pairs cells value rounds instance followed followed_for order tree_count each_tree predicate_given predicate_called function_given called_at_level first_called later_predicates is_later_predicate is_later_function has_line is_predicate
+unfolding query_trace told draining strictly calling applying collecting counting catching pred_run function_run calls_of level_at quiet_level rules find_pred meaning meaning_of_all meaning_of_any effect function_effect built_in_predicate built_in_function tests comparing_tests kind_tests writing_predicates other_predicates reading_functions integer_functions collection_functions sorting_functions index_functions range_functions naming_functions text_functions making_functions done_by list_of_copies new_in_all with_new_variables then alt first chosen negated caught collected counted cut evaluated evaluated_all matched_in matched_all_in drained settled settlement is_unchanged are_unchanged settlement_of_goal stable_state passes runs_of loaded count_due same_domain events_from variable_events activations activations_from thrown exception_with raised_with copy occurrences firsts all_unified unified_for outcome assigned joined in_pairs most_pairs unbound_in cells_of_pairs cells value rounds instance followed followed_for order tree_count each_tree predicate_given predicate_called function_given called_at_level first_called later_predicates is_later_predicate is_later_function has_line is_predicate
 matching-binds_none = (refl, refl)
 
 -- catch((X = 1, throw(e)), e, true): the binding of the goal is gone; where the terms don't unify, the exception goes on.
@@ -107,7 +112,7 @@ catch-leaves_nothing :
     (trace_of [] (catch (seq (goal (number_is 0 1) (goal (call (codes "throw") (atom (codes "e") ∷ [])) no_goals))) (atom (codes "e")) truth) 1 0
     ≡ ans (record { slots = None ∷ []; state = empty_state }) (end Done))
     × (trace_of [] (catch (call (codes "throw") (atom (codes "e") ∷ [])) (atom (codes "f")) truth) 1 0 ≡ end (Raise (atom (codes "e"))))
-unfolding query_trace told draining strictly calling applying collecting counting catching pred_run function_run calls_of level_at quiet_level rules find_pred meaning meaning_of_all meaning_of_any effect function_effect built_in_predicate built_in_function tests comparing_tests kind_tests writing_predicates other_predicates reading_functions integer_functions collection_functions sorting_functions index_functions range_functions naming_functions text_functions making_functions done_by list_of_copies new_in_all with_new_variables then alt first chosen negated caught collected counted cut evaluated evaluated_all matched_in matched_all_in drained settled thrown exception_with raised_with copy occurrences firsts all_unified unified_for outcome assigned joined in_pairs most_pairs unbound_in cells_of_pairs cells value rounds instance followed followed_for order tree_count each_tree predicate_given predicate_called function_given called_at_level first_called later_predicates is_later_predicate is_later_function has_line is_predicate
+unfolding query_trace told draining strictly calling applying collecting counting catching pred_run function_run calls_of level_at quiet_level rules find_pred meaning meaning_of_all meaning_of_any effect function_effect built_in_predicate built_in_function tests comparing_tests kind_tests writing_predicates other_predicates reading_functions integer_functions collection_functions sorting_functions index_functions range_functions naming_functions text_functions making_functions done_by list_of_copies new_in_all with_new_variables then alt first chosen negated caught collected counted cut evaluated evaluated_all matched_in matched_all_in drained settled settlement is_unchanged are_unchanged settlement_of_goal stable_state passes runs_of loaded count_due same_domain events_from variable_events activations activations_from thrown exception_with raised_with copy occurrences firsts all_unified unified_for outcome assigned joined in_pairs most_pairs unbound_in cells_of_pairs cells value rounds instance followed followed_for order tree_count each_tree predicate_given predicate_called function_given called_at_level first_called later_predicates is_later_predicate is_later_function has_line is_predicate
 catch-leaves_nothing = (refl, refl)
 
 -- A quiet predicate for a loop: turn([_|T]) => tick, turn(T).  turn([]) => true.  A turn takes one from the depth, the
@@ -127,7 +132,7 @@ loops-tick :
     × (trace_of loop_program (goal_of (codes "turn") (list_of (int (pos 7) ∷ int (pos 8) ∷ []))) 0 1 ≡ note Tick (end Deep))
     × (trace_of loop_program (goal_of (codes "turn") (list_of (int (pos 7) ∷ int (pos 8) ∷ []))) 0 2
     ≡ note Tick (note Tick (ans (record { slots = []; state = empty_state }) (end Done))))
-unfolding query_trace told draining strictly calling applying collecting counting catching pred_run function_run calls_of level_at quiet_level rules find_pred meaning meaning_of_all meaning_of_any effect function_effect built_in_predicate built_in_function tests comparing_tests kind_tests writing_predicates other_predicates reading_functions integer_functions collection_functions sorting_functions index_functions range_functions naming_functions text_functions making_functions done_by list_of_copies new_in_all with_new_variables then alt first chosen negated caught collected counted cut evaluated evaluated_all matched_in matched_all_in drained settled thrown exception_with raised_with copy occurrences firsts all_unified unified_for outcome assigned joined in_pairs most_pairs unbound_in cells_of_pairs cells value rounds instance followed followed_for order tree_count each_tree predicate_given predicate_called function_given called_at_level first_called later_predicates is_later_predicate is_later_function has_line is_predicate
+unfolding query_trace told draining strictly calling applying collecting counting catching pred_run function_run calls_of level_at quiet_level rules find_pred meaning meaning_of_all meaning_of_any effect function_effect built_in_predicate built_in_function tests comparing_tests kind_tests writing_predicates other_predicates reading_functions integer_functions collection_functions sorting_functions index_functions range_functions naming_functions text_functions making_functions done_by list_of_copies new_in_all with_new_variables then alt first chosen negated caught collected counted cut evaluated evaluated_all matched_in matched_all_in drained settled settlement is_unchanged are_unchanged settlement_of_goal stable_state passes runs_of loaded count_due same_domain events_from variable_events activations activations_from thrown exception_with raised_with copy occurrences firsts all_unified unified_for outcome assigned joined in_pairs most_pairs unbound_in cells_of_pairs cells value rounds instance followed followed_for order tree_count each_tree predicate_given predicate_called function_given called_at_level first_called later_predicates is_later_predicate is_later_function has_line is_predicate
 loops-tick = (refl, refl, refl, refl)
 
 -- find_all of 1 and of a variable: copies with new variables, and the bindings are gone; count_all counts them. The
@@ -137,7 +142,7 @@ answers-collected :
     ≡ ans (record { slots = None ∷ Some (list_of (int (pos 1) ∷ var 0 ∷ [])) ∷ []; state = a_state (free ∷ []) }) (end Done))
     × (trace_of [] (count (alternatives (goal truth (goal fail (goal truth no_goals)))) 0) 1 0
     ≡ ans (record { slots = Some (int (pos 2)) ∷ []; state = empty_state }) (end Done))
-unfolding query_trace told draining strictly calling applying collecting counting catching pred_run function_run calls_of level_at quiet_level rules find_pred meaning meaning_of_all meaning_of_any effect function_effect built_in_predicate built_in_function tests comparing_tests kind_tests writing_predicates other_predicates reading_functions integer_functions collection_functions sorting_functions index_functions range_functions naming_functions text_functions making_functions done_by list_of_copies new_in_all with_new_variables then alt first chosen negated caught collected counted cut evaluated evaluated_all matched_in matched_all_in drained settled thrown exception_with raised_with copy occurrences firsts all_unified unified_for outcome assigned joined in_pairs most_pairs unbound_in cells_of_pairs cells value rounds instance followed followed_for order tree_count each_tree predicate_given predicate_called function_given called_at_level first_called later_predicates is_later_predicate is_later_function has_line is_predicate
+unfolding query_trace told draining strictly calling applying collecting counting catching pred_run function_run calls_of level_at quiet_level rules find_pred meaning meaning_of_all meaning_of_any effect function_effect built_in_predicate built_in_function tests comparing_tests kind_tests writing_predicates other_predicates reading_functions integer_functions collection_functions sorting_functions index_functions range_functions naming_functions text_functions making_functions done_by list_of_copies new_in_all with_new_variables then alt first chosen negated caught collected counted cut evaluated evaluated_all matched_in matched_all_in drained settled settlement is_unchanged are_unchanged settlement_of_goal stable_state passes runs_of loaded count_due same_domain events_from variable_events activations activations_from thrown exception_with raised_with copy occurrences firsts all_unified unified_for outcome assigned joined in_pairs most_pairs unbound_in cells_of_pairs cells value rounds instance followed followed_for order tree_count each_tree predicate_given predicate_called function_given called_at_level first_called later_predicates is_later_predicate is_later_function has_line is_predicate
 answers-collected = (refl, refl)
 
 -- f(1) = 2.  A call of a function that no rule applies to is raised.
@@ -149,7 +154,7 @@ functions-have_values :
     ≡ note Tick (ans (record { slots = Some (int (pos 2)) ∷ []; state = empty_state }) (end Done)))
     × (trace_of function_program (apply (codes "f") (int (pos 3) ∷ []) 0) 1 1
     ≡ note Tick (end (Raise (comp (codes "unresolved_function_call") (tree (comp (codes "f") (tree (int (pos 3)) no_trees)) no_trees)))))
-unfolding query_trace told draining strictly calling applying collecting counting catching pred_run function_run calls_of level_at quiet_level rules find_pred meaning meaning_of_all meaning_of_any effect function_effect built_in_predicate built_in_function tests comparing_tests kind_tests writing_predicates other_predicates reading_functions integer_functions collection_functions sorting_functions index_functions range_functions naming_functions text_functions making_functions done_by list_of_copies new_in_all with_new_variables then alt first chosen negated caught collected counted cut evaluated evaluated_all matched_in matched_all_in drained settled thrown exception_with raised_with copy occurrences firsts all_unified unified_for outcome assigned joined in_pairs most_pairs unbound_in cells_of_pairs cells value rounds instance followed followed_for order tree_count each_tree predicate_given predicate_called function_given called_at_level first_called later_predicates is_later_predicate is_later_function has_line is_predicate
+unfolding query_trace told draining strictly calling applying collecting counting catching pred_run function_run calls_of level_at quiet_level rules find_pred meaning meaning_of_all meaning_of_any effect function_effect built_in_predicate built_in_function tests comparing_tests kind_tests writing_predicates other_predicates reading_functions integer_functions collection_functions sorting_functions index_functions range_functions naming_functions text_functions making_functions done_by list_of_copies new_in_all with_new_variables then alt first chosen negated caught collected counted cut evaluated evaluated_all matched_in matched_all_in drained settled settlement is_unchanged are_unchanged settlement_of_goal stable_state passes runs_of loaded count_due same_domain events_from variable_events activations activations_from thrown exception_with raised_with copy occurrences firsts all_unified unified_for outcome assigned joined in_pairs most_pairs unbound_in cells_of_pairs cells value rounds instance followed followed_for order tree_count each_tree predicate_given predicate_called function_given called_at_level first_called later_predicates is_later_predicate is_later_function has_line is_predicate
 functions-have_values = (refl, refl)
 
 -- index (-) e(X@f(_)).  A fact is unified with the call, with new variables; of an unbound variable `+` makes no use.
@@ -160,7 +165,7 @@ facts-unify :
     (trace_of (fact_program Mode.Minus) (goal_of (codes "e") (var 0)) 1 1
     ≡ note Tick (ans (record { slots = Some (var 0) ∷ []; state = a_state (bound (comp (codes "f") (tree (var 2) no_trees)) ∷ bound (comp (codes "f") (tree (var 2) no_trees)) ∷ free ∷ []) }) (end Done)))
     × (trace_of (fact_program Mode.Plus) (goal_of (codes "e") (var 0)) 1 1 ≡ note Tick (end Done))
-unfolding query_trace told draining strictly calling applying collecting counting catching pred_run function_run calls_of level_at quiet_level rules find_pred meaning meaning_of_all meaning_of_any effect function_effect built_in_predicate built_in_function tests comparing_tests kind_tests writing_predicates other_predicates reading_functions integer_functions collection_functions sorting_functions index_functions range_functions naming_functions text_functions making_functions done_by list_of_copies new_in_all with_new_variables then alt first chosen negated caught collected counted cut evaluated evaluated_all matched_in matched_all_in drained settled thrown exception_with raised_with copy occurrences firsts all_unified unified_for outcome assigned joined in_pairs most_pairs unbound_in cells_of_pairs cells value rounds instance followed followed_for order tree_count each_tree predicate_given predicate_called function_given called_at_level first_called later_predicates is_later_predicate is_later_function has_line is_predicate facts fact_term fact_terms fits_modes
+unfolding query_trace told draining strictly calling applying collecting counting catching pred_run function_run calls_of level_at quiet_level rules find_pred meaning meaning_of_all meaning_of_any effect function_effect built_in_predicate built_in_function tests comparing_tests kind_tests writing_predicates other_predicates reading_functions integer_functions collection_functions sorting_functions index_functions range_functions naming_functions text_functions making_functions done_by list_of_copies new_in_all with_new_variables then alt first chosen negated caught collected counted cut evaluated evaluated_all matched_in matched_all_in drained settled settlement is_unchanged are_unchanged settlement_of_goal stable_state passes runs_of loaded count_due same_domain events_from variable_events activations activations_from thrown exception_with raised_with copy occurrences firsts all_unified unified_for outcome assigned joined in_pairs most_pairs unbound_in cells_of_pairs cells value rounds instance followed followed_for order tree_count each_tree predicate_given predicate_called function_given called_at_level first_called later_predicates is_later_predicate is_later_function has_line is_predicate facts fact_term fact_terms fits_modes
 facts-unify = (refl, refl)
 
 -- Conditions, `once`, `not` and guards take the first answer; the bindings of a condition and of a guard stay.
@@ -174,7 +179,7 @@ conditions-take_first :
     × (trace_of (p_program true) (not (goal_of (codes "p") (var 0))) 1 1 ≡ note Tick (end Done))
     × (trace_of q_program (not (goal_of (codes "q") (int (pos 2)))) 0 1 ≡ note Tick (ans (record { slots = []; state = empty_state }) (end Done)))
     × (trace_of guarded_program (goal_of (codes "r") (var 0)) 1 2 ≡ note Tick (note Tick (ans (number_answer 1) (end Done))))
-unfolding query_trace told draining strictly calling applying collecting counting catching pred_run function_run calls_of level_at quiet_level rules find_pred meaning meaning_of_all meaning_of_any effect function_effect built_in_predicate built_in_function tests comparing_tests kind_tests writing_predicates other_predicates reading_functions integer_functions collection_functions sorting_functions index_functions range_functions naming_functions text_functions making_functions done_by list_of_copies new_in_all with_new_variables then alt first chosen negated caught collected counted cut evaluated evaluated_all matched_in matched_all_in drained settled thrown exception_with raised_with copy occurrences firsts all_unified unified_for outcome assigned joined in_pairs most_pairs unbound_in cells_of_pairs cells value rounds instance followed followed_for order tree_count each_tree predicate_given predicate_called function_given called_at_level first_called later_predicates is_later_predicate is_later_function has_line is_predicate
+unfolding query_trace told draining strictly calling applying collecting counting catching pred_run function_run calls_of level_at quiet_level rules find_pred meaning meaning_of_all meaning_of_any effect function_effect built_in_predicate built_in_function tests comparing_tests kind_tests writing_predicates other_predicates reading_functions integer_functions collection_functions sorting_functions index_functions range_functions naming_functions text_functions making_functions done_by list_of_copies new_in_all with_new_variables then alt first chosen negated caught collected counted cut evaluated evaluated_all matched_in matched_all_in drained settled settlement is_unchanged are_unchanged settlement_of_goal stable_state passes runs_of loaded count_due same_domain events_from variable_events activations activations_from thrown exception_with raised_with copy occurrences firsts all_unified unified_for outcome assigned joined in_pairs most_pairs unbound_in cells_of_pairs cells value rounds instance followed followed_for order tree_count each_tree predicate_given predicate_called function_given called_at_level first_called later_predicates is_later_predicate is_later_function has_line is_predicate
 conditions-take_first = (refl, refl, refl, refl, refl)
 
 -- w(X), {ins(X)} => fail.  w(X) => true.  The call succeeds, and the state has a new agent with the variable of the event.
@@ -193,7 +198,7 @@ with_one_agent = note Tick (ans (record {
 rules-suspend :
     (trace_of (agent_program false) (goal_of (codes "w") (var 0)) 1 1 ≡ with_one_agent)
     × (trace_of (agent_program true) (goal_of (codes "w") (var 0)) 1 1 ≡ with_one_agent)
-unfolding query_trace told draining strictly calling applying collecting counting catching pred_run function_run calls_of level_at quiet_level rules find_pred meaning meaning_of_all meaning_of_any effect function_effect built_in_predicate built_in_function tests comparing_tests kind_tests writing_predicates other_predicates reading_functions integer_functions collection_functions sorting_functions index_functions range_functions naming_functions text_functions making_functions done_by list_of_copies new_in_all with_new_variables then alt first chosen negated caught collected counted cut evaluated evaluated_all matched_in matched_all_in drained settled thrown exception_with raised_with copy occurrences firsts all_unified unified_for outcome assigned joined in_pairs most_pairs unbound_in cells_of_pairs cells value rounds instance followed followed_for order tree_count each_tree predicate_given predicate_called function_given called_at_level first_called later_predicates is_later_predicate is_later_function has_line is_predicate watch_trees
+unfolding query_trace told draining strictly calling applying collecting counting catching pred_run function_run calls_of level_at quiet_level rules find_pred meaning meaning_of_all meaning_of_any effect function_effect built_in_predicate built_in_function tests comparing_tests kind_tests writing_predicates other_predicates reading_functions integer_functions collection_functions sorting_functions index_functions range_functions naming_functions text_functions making_functions done_by list_of_copies new_in_all with_new_variables then alt first chosen negated caught collected counted cut evaluated evaluated_all matched_in matched_all_in drained settled settlement is_unchanged are_unchanged settlement_of_goal stable_state passes runs_of loaded count_due same_domain events_from variable_events activations activations_from thrown exception_with raised_with copy occurrences firsts all_unified unified_for outcome assigned joined in_pairs most_pairs unbound_in cells_of_pairs cells value rounds instance followed followed_for order tree_count each_tree predicate_given predicate_called function_given called_at_level first_called later_predicates is_later_predicate is_later_function has_line is_predicate watch_trees
 rules-suspend = (refl, refl)
 
 -- g(X) = 1 => fail.  g(X) = 2.  The first rule of a function is committed, also where it is said to leave later ones as
@@ -212,7 +217,7 @@ committed_program = record {
 functions-commit :
     trace_of committed_program (apply (codes "g") (int (pos 3) ∷ []) 0) 1 1
     ≡ note Tick (end (Raise (comp (codes "unresolved_function_call") (tree (comp (codes "g") (tree (int (pos 3)) no_trees)) no_trees))))
-unfolding query_trace told draining strictly calling applying collecting counting catching pred_run function_run calls_of level_at quiet_level rules find_pred meaning meaning_of_all meaning_of_any effect function_effect built_in_predicate built_in_function tests comparing_tests kind_tests writing_predicates other_predicates reading_functions integer_functions collection_functions sorting_functions index_functions range_functions naming_functions text_functions making_functions done_by list_of_copies new_in_all with_new_variables then alt first chosen negated caught collected counted cut evaluated evaluated_all matched_in matched_all_in drained settled thrown exception_with raised_with copy occurrences firsts all_unified unified_for outcome assigned joined in_pairs most_pairs unbound_in cells_of_pairs cells value rounds instance followed followed_for order tree_count each_tree predicate_given predicate_called function_given called_at_level first_called later_predicates is_later_predicate is_later_function has_line is_predicate
+unfolding query_trace told draining strictly calling applying collecting counting catching pred_run function_run calls_of level_at quiet_level rules find_pred meaning meaning_of_all meaning_of_any effect function_effect built_in_predicate built_in_function tests comparing_tests kind_tests writing_predicates other_predicates reading_functions integer_functions collection_functions sorting_functions index_functions range_functions naming_functions text_functions making_functions done_by list_of_copies new_in_all with_new_variables then alt first chosen negated caught collected counted cut evaluated evaluated_all matched_in matched_all_in drained settled settlement is_unchanged are_unchanged settlement_of_goal stable_state passes runs_of loaded count_due same_domain events_from variable_events activations activations_from thrown exception_with raised_with copy occurrences firsts all_unified unified_for outcome assigned joined in_pairs most_pairs unbound_in cells_of_pairs cells value rounds instance followed followed_for order tree_count each_tree predicate_given predicate_called function_given called_at_level first_called later_predicates is_later_predicate is_later_function has_line is_predicate
 functions-commit = refl
 
 -- In the loop a Tick stands before the call of the quiet predicate: no way leads from one of its clauses to a call.

@@ -4,7 +4,7 @@ use Rattle.std.specs.Prelude.{nat_lt, Option, Some, None, option_map, Ok, Err, �
 use Rattle.pi_terms.specs.Tree.{Tree, Trees, cells, most_cells}
 use Rattle.pi_terms.specs.Copy.{copy, new_variables}
 use Rattle.pi_constraints.specs.Value.{value}
-use Rattle.pi_constraints.specs.State.{State, bindings, next, followed, SpeaksBelow, IsState}
+use Rattle.pi_constraints.specs.State.{State, bindings, next, followed, SpeaksBelow}
 use Rattle.pi_constraints.specs.Evaluation.{with_new_variables}
 use Rattle.pi_effects.specs.Answer.{Answer}
 use Rattle.pi_effects.specs.Effect.{FunctionEffect, Gives, Refuses}
@@ -15,21 +15,22 @@ use Rattle.pi_effects.specs.Making.{size_at, size_or_raised, so_many, new_from, 
 use Rattle.pi_effects.specs.Rows.{done_by}
 use Rattle.pi_effects.specs.BuiltIns.{reading_functions, answer_in, built_in_function}
 use Rattle.pi_effects.proofs.RowLemmas.{same_given, given-or}
-use Rattle.pi_constraints.proofs.KeepsLemmas.{TreesBelow, Later, later-itself, news-next, news-later, copy-below}
+use Rattle.pi_constraints.proofs.KeepsLemmas.{TreesBelow, news-next, copy-below}
 use Rattle.pi_meaning.proofs.CoreMeaning.ItemsBelow.{ItemsBelow, array-below, list-below, new-below, rows-below}
 use Rattle.pi_meaning.proofs.CoreMeaning.AnswersBelow.{AnswerBelow, LinesKeep, ◌&◌, lines-keep}
 use Rattle.pi_meaning.proofs.CoreMeaning.TablesKeep.{reading-keeps}
+use Rattle.pi_meaning.proofs.CoreMeaning.PlainLemmas.{IsPlain, PlainLater, plain-itself, news-plain}
 
 -- the state after a function is later, and the value speaks of its variables
 abbrev pub GivesKept : State → FunctionEffect → Type 0
-GivesKept s (Gives t r) = Later s r × SpeaksBelow (next r) t
+GivesKept s (Gives t r) = PlainLater s r × SpeaksBelow (next r) t
 GivesKept s (Refuses ball) = ⊤
 
 -- ---- functions that make variables
 
 -- a value that speaks of what was made and of so many new variables
-given-new : (s : State) (k : ℕ) (t : Tree) → IsState s → SpeaksBelow (next s + k) t → GivesKept s (Gives t (with_new_variables k s))
-given-new s k t is below = (news-later k s is, subst (λ (n : ℕ). SpeaksBelow n t) (sym (news-next k s)) below)
+given-new : (s : State) (k : ℕ) (t : Tree) → IsPlain s → SpeaksBelow (next s + k) t → GivesKept s (Gives t (with_new_variables k s))
+given-new s k t is below = (news-plain k s is, subst (λ (n : ℕ). SpeaksBelow n t) (sym (news-next k s)) below)
 
 size-keeps : (s : State) (o : Option ℕ) (ball : Tree) (f : ℕ → FunctionEffect) → ((k : ℕ) → GivesKept s (f k)) → GivesKept s (size_or_raised o ball f)
 size-keeps s None ball f each = tt
@@ -39,13 +40,13 @@ unless-keeps : (s : State) (c : Bool) (ball : Tree) (e : FunctionEffect) → Giv
 unless-keeps s true ball e h = tt
 unless-keeps s false ball e h = h
 
-new-items-keep : (make : List Tree → Tree) → ((n : ℕ) (ts : List Tree) → ItemsBelow n ts → SpeaksBelow n (make ts)) → (s : State) → IsState s → (t : Tree) → GivesKept s (new_items make s t)
+new-items-keep : (make : List Tree → Tree) → ((n : ℕ) (ts : List Tree) → ItemsBelow n ts → SpeaksBelow n (make ts)) → (s : State) → IsPlain s → (t : Tree) → GivesKept s (new_items make s t)
 new-items-keep make made s is t =
     size-keeps s (size_at (followed (bindings s) t)) (bad_index t s) (λ k. so_many k (Gives (make (new_from (next s) k)) (with_new_variables k s)))
     (λ k. unless-keeps s (nat_lt most_items k) range_too_long (Gives (make (new_from (next s) k)) (with_new_variables k s))
     (given-new s k (make (new_from (next s) k)) is (made (next s + k) (new_from (next s) k) (new-below (next s) k))))
 
-new-grid-keeps : (s : State) → IsState s → (t u : Tree) → GivesKept s (new_grid s t u)
+new-grid-keeps : (s : State) → IsPlain s → (t u : Tree) → GivesKept s (new_grid s t u)
 new-grid-keeps s is t u =
     size-keeps s (size_at (followed (bindings s) t)) (bad_index t s) _
     (λ m. unless-keeps s (nat_lt most_items m) range_too_long _
@@ -53,12 +54,12 @@ new-grid-keeps s is t u =
     (λ k. unless-keeps s (nat_lt most_items (m * k)) range_too_long (Gives (array_of (new_rows m k (next s))) (with_new_variables (m * k) s))
     (given-new s (m * k) (array_of (new_rows m k (next s))) is (array-below (next s + m * k) (new_rows m k (next s)) (rows-below m k (next s)))))))
 
-copied-keeps : (s : State) → IsState s → (t : Tree) → GivesKept s (copied s t)
+copied-keeps : (s : State) → IsPlain s → (t : Tree) → GivesKept s (copied s t)
 copied-keeps s is t =
     unless-keeps s (nat_lt most_cells (cells t)) term_too_large (Gives (copy (next s) t) (with_new_variables (new_variables t) s))
     (given-new s (new_variables t) (copy (next s) t) is (copy-below (next s) t))
 
-making-keeps : (s : State) → IsState s → LinesKeep (GivesKept s) s making_functions
+making-keeps : (s : State) → IsPlain s → LinesKeep (GivesKept s) s making_functions
 unfolding making_functions
 making-keeps s is =
     (λ t below. new-items-keep list_of list-below s is t) &
@@ -69,19 +70,19 @@ making-keeps s is =
 
 -- ---- all functions
 
-answer-keeps : (s : State) → IsState s → (a : Answer Tree) → AnswerBelow (next s) a → GivesKept s (answer_in s a)
-answer-keeps s is (Ok t) below = (later-itself s is, below)
+answer-keeps : (s : State) → IsPlain s → (a : Answer Tree) → AnswerBelow (next s) a → GivesKept s (answer_in s a)
+answer-keeps s is (Ok t) below = (plain-itself s is, below)
 answer-keeps s is (Err ball) below = tt
 
-answered-keeps : (s : State) → IsState s → (o : Option (Answer Tree)) → ((a : Answer Tree) → o ≡ Some a → AnswerBelow (next s) a) → (e : FunctionEffect) →
+answered-keeps : (s : State) → IsPlain s → (o : Option (Answer Tree)) → ((a : Answer Tree) → o ≡ Some a → AnswerBelow (next s) a) → (e : FunctionEffect) →
     option_map (answer_in s) o ≡ Some e → GivesKept s e
 answered-keeps s is None each e h = absurd (cc)
 answered-keeps s is (Some a) each e h = same_given (GivesKept s) h (answer-keeps s is a (each a refl))
 
-pub function-keeps : (name : List ℕ) (ts : Trees) (s : State) → IsState s → TreesBelow (next s) ts → (e : FunctionEffect) → built_in_function name ts s ≡ Some e → GivesKept s e
+pub function-keeps : (name : List ℕ) (ts : Trees) (s : State) → IsPlain s → TreesBelow (next s) ts → (e : FunctionEffect) → built_in_function name ts s ≡ Some e → GivesKept s e
 unfolding built_in_function
 function-keeps name ts s is below e h =
     given-or (GivesKept s) (option_map (answer_in s) (done_by reading_functions name ts s)) (done_by making_functions name ts s) e h
     (answered-keeps s is (done_by reading_functions name ts s)
-    (λ a given. lines-keep (AnswerBelow (next s)) reading_functions name ts s a (reading-keeps s is) below given) e)
+    (λ a given. lines-keep (AnswerBelow (next s)) reading_functions name ts s a (reading-keeps s is.0) below given) e)
     (lines-keep (GivesKept s) making_functions name ts s e (making-keeps s is) below)

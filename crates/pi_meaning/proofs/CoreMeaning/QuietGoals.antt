@@ -1,5 +1,5 @@
 -- A goal's trace ends in Deep only past as many Ticks as its level is worth, where quiet calls may nest as they do in it, and built-ins last so long.
-use Rattle.std.proofs.Common.{◌≡◌, ◌⊎◌, inl, inr, ℕ, suc, ◌-◌, ◌<◌, ◌≤◌, Bool, true, false, cond, List, length, ap, ◌∙◌, arith}
+use Rattle.std.proofs.Common.{◌≡◌, ◌⊎◌, inl, inr, ℕ, suc, ◌-◌, ◌<◌, ◌≤◌, Bool, true, false, cond, List, length, ap, ◌∙◌, arith, zero}
 use Rattle.std.specs.Prelude.{Option, Some, None, option_map, pos, nat_lt, codes, ⊤}
 use Rattle.pi_terms.specs.Tree.{Tree, int, atom, Trees, trees_of, tree_count, cells, most_cells}
 use Rattle.pi_terms.specs.Places.{Places}
@@ -11,12 +11,14 @@ use Rattle.pi_traces.specs.Trace.{Trace, end, one, alt, then, first}
 use Rattle.pi_traces.specs.Control.{negated, chosen}
 use Rattle.pi_meaning.specs.Shared.View.{View}
 use Rattle.pi_meaning.specs.CoreMeaning.Instances.{is_called_by_name}
-use Rattle.pi_meaning.specs.Shared.Settle.{settled}
+use Rattle.pi_meaning.specs.Shared.Settle.{settled, settlement}
+use Rattle.pi_settling.specs.Settled.{loaded}
+use Rattle.pi_settling.specs.Settle.{answer_with}
 use Rattle.pi_constraints.specs.Evaluation.{Evaluated, evaluated, EvaluatedAll, evaluated_all, with_new_variables}
 use Rattle.pi_meaning.specs.Shared.Raise.{within_limit, too_large}
 use Rattle.pi_meaning.specs.Shared.Level.{Level, lowest, over, Calls, Applied, Point, calls_at, or_called, or_applied}
 use Rattle.pi_effects.specs.Effect.{Effect, Succeeds, Fails, Writes, Raises, FunctionEffect, Gives, Refuses}
-use Rattle.pi_meaning.specs.Shared.Builtin.{written, effect_trace, function_trace, settled_effect}
+use Rattle.pi_meaning.specs.Shared.Builtin.{written, function_trace, settled_effect}
 use Rattle.pi_meaning.specs.Shared.Within.{is_body}
 use Rattle.pi_meaning.specs.Shared.Handling.{handled_in, handling}
 use Rattle.pi_meaning.specs.CoreMeaning.Builtins.{Builtins, predicate_by, function_by}
@@ -227,9 +229,16 @@ counting-deepens preds r a into R P x f fits d p h l =
     (λ j n m. one-lasts (Left preds r f ⊤) j (with_slot p into (int (pos n))) (omega (arith, m, h), inl (l, tt)))
 
 -- settling has no Deep
+loaded-lasts : (d n : ℕ) (o : Option State) → Lasts Any d (loaded n (answer_with o))
+unfolding loaded Lasts
+loaded-lasts d zero None = done-lasts {A = State} Any d
+loaded-lasts d zero (Some r) = one-lasts Any d r tt
+loaded-lasts d (suc n) None = done-lasts {A = State} Any d
+loaded-lasts d (suc n) (Some r) = one-lasts {A = State} Any d r tt
+
 pub settled-lasts : (d : ℕ) (s t : State) → Lasts Any d (settled s t)
 unfolding settled
-settled-lasts d s t = one-lasts Any d t tt
+settled-lasts d s t = loaded-lasts d (settlement s t).load (settlement s t).left
 
 handled-lasts : (preds : List PredTree) (r : TicksBetween preds) (b : Action) (R : Callee → Type 0) (P Q : Type 0) → Deepens preds r b R P → (P → Q) →
     (f : ℕ) → ((c : Callee) → R c → Fits preds r f c) → (d : ℕ) (p : Point) → d ≤ worth p.level → LevelLasts preds r f p.level → (raised : Tree) (o : Option State) →
@@ -262,18 +271,15 @@ unfolding Lasts
 written-lasts d true text s = raise-lasts {A = State} Any d (atom (codes "output_in_plan"))
 written-lasts d false text s = one-lasts {A = State} Any d s tt
 
-did-lasts : (d : ℕ) (v : View) (e : Effect) → Lasts Any d (effect_trace v e)
-did-lasts d v (Succeeds s) = one-lasts Any d s tt
-did-lasts d v Fails = done-lasts Any d
-did-lasts d v (Writes text s) = written-lasts d (is_body v.within) text s
-did-lasts d v (Raises ball) = raise-lasts Any d ball
-
 pub gave-lasts : (d : ℕ) (e : FunctionEffect) → Lasts Any d (function_trace e)
 gave-lasts d (Gives t s) = one-lasts Any d (record { value = t; state = s }) tt
 gave-lasts d (Refuses ball) = raise-lasts Any d ball
 
 pub settled-effect-lasts : (d : ℕ) (v : View) (s : State) (e : Effect) → Lasts Any d (settled_effect v s e)
-settled-effect-lasts d v s e = then-lasts Any Any any-falls d (effect_trace v e) (settled s) (did-lasts d v e) (λ k t m o. settled-lasts k s t)
+settled-effect-lasts d v s (Succeeds r) = settled-lasts d s r
+settled-effect-lasts d v s Fails = done-lasts {A = State} Any d
+settled-effect-lasts d v s (Writes text r) = written-lasts d (is_body v.within) text r
+settled-effect-lasts d v s (Raises ball) = raise-lasts {A = State} Any d ball
 
 called-lasts : (preds : List PredTree) (r : TicksBetween preds) (f d : ℕ) (l : Level) → d ≤ worth l → LevelLasts preds r f l → (name : List ℕ) (ts : Trees) (s : State) →
     Fits preds r f (callee false name (tree_count ts)) → (o : Option (Trace State)) → OptionLasts d o → Lasts Any d (or_called o l name ts s)

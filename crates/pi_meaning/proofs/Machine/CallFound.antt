@@ -67,7 +67,7 @@ apply-comes-to v preds name args into pred gs e s k es none found =
 -- what is built in
 pub effect-comes-to : (v : View) (preds : List PredTree) (name : List ℕ) (args : List Tree) (d : Effect) (gs : GoalTrees) (e : Places) (s : State) (k : List Frame) (es : List Entry) →
     let all : EvaluatedAll = evaluated_all (trees_of args) e s in
-    built_in_predicate name all.trees all.state ≡ Some d → goal_step v preds (call name args) e s (with_rest gs k es) ≡ silently (config (done_now v d gs all.slots k) es)
+    built_in_predicate name all.trees all.state ≡ Some d → goal_step v preds (call name args) e s (with_rest gs k es) ≡ silently (config (done_now v all.state d gs all.slots k) es)
 unfolding goal_step
 effect-comes-to v preds name args d gs e s k es is =
     let all : EvaluatedAll = evaluated_all (trees_of args) e s in

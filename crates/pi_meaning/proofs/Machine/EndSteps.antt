@@ -1,5 +1,6 @@
 -- Lemmas on steps: a goal that has no further answer, and exceptions.
 use Rattle.std.proofs.Common.{◌≡◌, ℕ, zero, suc, List, [], ◌∷◌, ◌++◌, refl, ap, sym, ◌∙◌, arith}
+use Rattle.std.proofs.Math.Path.{fun_ext}
 use Rattle.std.specs.Prelude.{Option, Some, None, codes, pos, slice_set}
 use Rattle.pi_terms.specs.Tree.{Tree, int}
 use Rattle.pi_terms.specs.Copy.{copy, new_variables}
@@ -17,7 +18,7 @@ use Rattle.pi_meaning.specs.Shared.Level.{Level, Point}
 use Rattle.pi_meaning.specs.CoreMeaning.Meaning.{with_slot, with_list, meaning}
 use Rattle.pi_meaning.specs.Shared.Handling.{handled_in}
 use Rattle.pi_terms.specs.ListCopies.{list_of_copies, new_in_all}
-use Rattle.pi_traces.proofs.TraceLemmas.{alt-done}
+use Rattle.pi_traces.proofs.TraceLemmas.{then-assoc}
 use Rattle.pi_meaning.specs.Machine.Configuration.{Back, Choice, rules_left, facts_left, branches_left, Strict, once_level, not_level, if_level, guard_level, value_level, list_level, number_level, Entry, choice, strict, catch_level, left, failed, raising, config}
 use Rattle.pi_meaning.specs.Machine.Remaining.{point, continued, start_of, choice_trace, level_trace, catch_trace, around, now_trace}
 use Rattle.pi_meaning.specs.Machine.Step.{unresolved, choice_step, end_step, handler_step, Open, none_open, strict_open, catch_open, beneath, newest_open, below_left}
@@ -82,10 +83,11 @@ strict-raises given l (number_level into n) b es ball = refl
 
 handler-runs : (given : Builtins) (l : Level) (handler : GoalTree) (b : Back) (raised : Tree) (o : Option State) →
     then (handled_in b.state raised (λ s. meaning given handler (point l b.slots s)) o) (continued given l b.frames) ≡ now_trace given l (handler_step handler b raised o)
-unfolding now_trace then alt settled
+unfolding now_trace then
 handler-runs given l handler b raised None = refl
 handler-runs given l handler b raised (Some s) =
-    ap (λ t. then t (continued given l b.frames)) (alt-done (meaning given handler (point l b.slots s))) ∙ sym (goal-alone given l handler b.slots s b.frames)
+    then-assoc (settled b.state s) (λ r. meaning given handler (point l b.slots r)) (continued given l b.frames)
+    ∙ ap (then (settled b.state s)) (fun_ext (λ r. sym (goal-alone given l handler b.slots r b.frames)))
 
 pub catch-raises : (given : Builtins) (l : Level) (ball : Tree) (handler : GoalTree) (b : Back) (es : List Entry) (raised : Tree) →
     Is given l (catch_level ball handler b ∷ es) (end (Raise raised))

@@ -11,19 +11,20 @@ use Rattle.pi_traces.specs.Trace.{Trace, note, Out, one, alt, then}
 use Rattle.pi_traces.specs.Control.{chosen, counted}
 use Rattle.pi_meaning.specs.Shared.View.{View}
 use Rattle.pi_meaning.specs.CoreMeaning.Builtins.{Builtins}
+use Rattle.pi_settling.specs.Settle.{answer_with}
 use Rattle.pi_meaning.specs.Shared.Settle.{settled}
 use Rattle.pi_constraints.specs.Evaluation.{Evaluated, evaluated}
 use Rattle.pi_constraints.specs.HeadMatch.{matched_all_in}
 use Rattle.pi_effects.specs.Effect.{Effect, Succeeds, Fails, Writes, Raises, FunctionEffect, Gives, Refuses}
 use Rattle.pi_meaning.specs.Shared.Level.{Level, Point}
 use Rattle.pi_meaning.specs.Shared.Within.{is_body}
-use Rattle.pi_meaning.specs.Shared.Builtin.{written, effect_trace, settled_effect, function_trace}
+use Rattle.pi_meaning.specs.Shared.Builtin.{written, settled_effect, function_trace}
 use Rattle.pi_meaning.specs.CoreMeaning.Meaning.{Action, with_slot, draining, strictly, succeeding, collecting, counting, meaning, meaning_of_any}
 use Rattle.pi_meaning.specs.CoreMeaning.Rules.{guarded, chosen_rule, rule_before, rules, value_at, rule_by}
-use Rattle.pi_traces.proofs.TraceLemmas.{then-alt, alt-done}
+use Rattle.pi_traces.proofs.TraceLemmas.{then-alt, then-assoc, alt-done}
 use Rattle.pi_meaning.specs.Machine.Configuration.{Frame, more, return, give, Back, Called, Strict, guard_level, list_level, number_level, Entry, strict, catch_level, Config, config, behind, after_body}
 use Rattle.pi_meaning.specs.Machine.Remaining.{point, valued, continued, run_from, start_of, body_of, rules_trace, choice_trace, level_trace, catch_trace, around, now_trace}
-use Rattle.pi_meaning.specs.Machine.Step.{back_to, inside, branch, later_rules, taken, guarding, tried, try_rules, written_now, done_now, given_now, frame_step, trial}
+use Rattle.pi_meaning.specs.Machine.Step.{back_to, inside, branch, later_rules, taken, guarding, tried, try_rules, written_now, done_now, given_now, left_now, frame_step, trial}
 use Rattle.pi_meaning.proofs.Machine.RuleForms.{rules-anywhere}
 use Rattle.pi_meaning.proofs.Machine.RunLemmas.{CallsAre, draining-goes_on, behind-continued, goal-first, goal-alone, goal-strict, no-goal, remains}
 
@@ -148,31 +149,20 @@ unfolding then alt now_trace
 written-goes_on given l true text gs e s k es = refl
 written-goes_on given l false text gs e s k es = ap (λ t. around given l es (note (Out text) t) []) (truth-goes_on given l gs e s k)
 
--- a state that is settled is itself
-settled-alone : (v : View) (r : State) (e : Effect) → settled_effect v r e ≡ effect_trace v e
-unfolding settled then alt
-settled-alone v r (Succeeds s) = refl
-settled-alone v r Fails = refl
-settled-alone v r (Writes text s) = alone (is_body v.within) text s
-  where
-    alone : (inside : Bool) (text : List ℕ) (s : State) → then (written inside text s) (settled r) ≡ written inside text s
-    alone true text s = refl
-    alone false text s = refl
-settled-alone v r (Raises ball) = refl
-
-did-goes_on : (given : Builtins) (v : View) (l : Level) (e : Effect) (gs : GoalTrees) (slots : Places) (k : List Frame) (es : List Entry) →
-    Is given l es (then (then (effect_trace v e) (λ x. one (point l slots x))) (continued given l (behind gs k))) (config (done_now v e gs slots k) es)
-unfolding then alt now_trace
-did-goes_on given v l (Succeeds s) gs slots k es = ap (λ t. around given l es t []) (truth-goes_on given l gs slots s k)
-did-goes_on given v l Fails gs slots k es = refl
-did-goes_on given v l (Writes text s) gs slots k es = written-goes_on given l (is_body v.within) text gs slots s k es
-did-goes_on given v l (Raises ball) gs slots k es = refl
+-- a state that is settled before goals go on
+pub settled-goes_on : (given : Builtins) (l : Level) (before s : State) (gs : GoalTrees) (slots : Places) (k : List Frame) →
+    then (then (settled before s) (λ x. one (point l slots x))) (continued given l (behind gs k)) ≡ then (settled before s) (λ x. run_from given l gs slots x k)
+settled-goes_on given l before s gs slots k =
+    then-assoc (settled before s) (λ x. one (point l slots x)) (continued given l (behind gs k)) ∙ ap (then (settled before s)) (fun_ext (λ x. truth-goes_on given l gs slots x k))
 
 -- an effect goes on with its answer
 pub effect-goes_on : (given : Builtins) (v : View) (l : Level) (r : State) (e : Effect) (gs : GoalTrees) (slots : Places) (k : List Frame) (es : List Entry) →
-    Is given l es (then (then (settled_effect v r e) (λ x. one (point l slots x))) (continued given l (behind gs k))) (config (done_now v e gs slots k) es)
-effect-goes_on given v l r e gs slots k es =
-    ap (λ t. around given l es (then (then t (λ x. one (point l slots x))) (continued given l (behind gs k))) []) (settled-alone v r e) ∙ did-goes_on given v l e gs slots k es
+    Is given l es (then (then (settled_effect v r e) (λ x. one (point l slots x))) (continued given l (behind gs k))) (config (done_now v r e gs slots k) es)
+unfolding then now_trace
+effect-goes_on given v l r (Succeeds s) gs slots k es = ap (λ t. around given l es t []) (settled-goes_on given l r s gs slots k)
+effect-goes_on given v l r Fails gs slots k es = refl
+effect-goes_on given v l r (Writes text s) gs slots k es = written-goes_on given l (is_body v.within) text gs slots s k es
+effect-goes_on given v l r (Raises ball) gs slots k es = refl
 
 -- and a function's with its value in a slot
 pub given-goes_on : (given : Builtins) (l : Level) (e : FunctionEffect) (into : ℕ) (gs : GoalTrees) (slots : Places) (k : List Frame) (es : List Entry) →
@@ -180,6 +170,15 @@ pub given-goes_on : (given : Builtins) (l : Level) (e : FunctionEffect) (into : 
 unfolding then alt now_trace
 given-goes_on given l (Gives t s) into gs slots k es = ap (λ u. around given l es u []) (truth-goes_on given l gs (slice_set slots into (Some t)) s k)
 given-goes_on given l (Refuses ball) into gs slots k es = refl
+
+-- ---- settling
+
+-- what is left goes on, after its load
+pub left-goes_on : (given : Builtins) (l : Level) (o : Option State) (gs : GoalTrees) (e : Places) (k : List Frame) →
+    then (answer_with o) (λ r. run_from given l gs e r k) ≡ now_trace given l (left_now o gs e k)
+unfolding now_trace then
+left-goes_on given l None gs e k = refl
+left-goes_on given l (Some r) gs e k = alt-done (run_from given l gs e r k)
 
 -- ---- frames
 

@@ -15,14 +15,15 @@ use Rattle.pi_meaning.specs.CoreMeaning.Facts.{fits_modes}
 use Rattle.pi_meaning.specs.CoreMeaning.Run.{Solution}
 use Rattle.pi_syntax.specs.declared.program.Mode.{Mode}
 use Rattle.pi_core.specs.declared.core_program.NameSlot.{NameSlot}
-use Rattle.pi_meaning.specs.Machine.Configuration.{Frame, more, return, give, Back, Called, Choice, rules_left, facts_left, branches_left, Strict, once_level, not_level, if_level, guard_level, value_level, list_level, number_level, Entry, choice, strict, catch_level, left, Now, going, failed, raising, Config, config, behind, telling}
-use Rattle.pi_meaning.specs.Machine.Step.{back_to, branch, guarding, tried, try_rules, with_fact, from_unifying, later_facts, fact_tried, try_facts, try_clauses, later_rules, call_step, predicate_step, effect_step, function_step, value_step, goal_step, frame_step, Open, none_open, strict_open, catch_open, newest_open, strict_step, leave, fits, told_step, answer_step, choice_step, end_step, fail_step, below_left, raise_step, now_step, step, later_step, name_step, later_value, other_value, trial, with_rest, name_call}
+use Rattle.pi_meaning.specs.Machine.Configuration.{Frame, more, return, give, Back, Called, Choice, rules_left, facts_left, branches_left, Strict, once_level, not_level, if_level, guard_level, value_level, list_level, number_level, Entry, choice, strict, catch_level, left, Now, going, settling, failed, raising, Config, config, behind, telling}
+use Rattle.pi_meaning.specs.Machine.Step.{back_to, branch, guarding, tried, try_rules, with_fact, from_unifying, later_facts, fact_tried, try_facts, try_clauses, later_rules, call_step, predicate_step, effect_step, function_step, value_step, goal_step, frame_step, Open, none_open, strict_open, catch_open, newest_open, strict_step, leave, fits, told_step, answer_step, choice_step, end_step, fail_step, below_left, raise_step, now_step, step, later_step, name_step, later_value, other_value, trial, with_rest, name_call, left_now, loaded_step}
 use Rattle.pi_meaning.specs.Machine.Shape.{IsBalanced, IsGood}
 use Rattle.pi_meaning.specs.Machine.Laws.{GoesOnGood}
 use Rattle.pi_meaning.proofs.Machine.StackLemmas.{IsClosed, IsFound, newest-found}
 use Rattle.pi_meaning.proofs.Machine.EndSteps.{IsMatched, left-matched}
 use Rattle.pi_effects.specs.Effect.{Effect, FunctionEffect}
 use Rattle.pi_effects.specs.BuiltIns.{built_in_predicate, built_in_function}
+use Rattle.pi_meaning.specs.Shared.Settle.{settlement}
 
 pub closed-rest : (n : ℕ) (above rest : List Entry) → IsClosed n above → IsBalanced n (above ++ rest) → IsBalanced 0 rest
 unfolding IsClosed IsBalanced
@@ -257,10 +258,15 @@ raise-good raised (strict level b ∷ es) h = record { balanced = h }
 raise-good raised (catch_level ball handler b ∷ es) h = record { balanced = h }
 raise-good raised (left ∷ es) h = record { balanced = below-keeps es (newest_open zero es) (left-matched 0 es h) }
 
+loaded-good : (n : ℕ) (c : Config) → IsGood c → GoesOnGood (loaded_step n c)
+loaded-good zero c h = h
+loaded-good (suc n) c h = h
+
 now-good : (v : View) (preds : List PredTree) (names : List NameSlot) (now : Now) (es : List Entry) → IsBalanced 0 es → GoesOnGood (now_step v preds names now es)
 now-good v preds names (going (goal g gs) e s k) es h = goal-good v preds g gs e s k es h
 now-good v preds names (going no_goals e s []) es h = answer-good names e s es h (newest_open zero es) (newest-found zero es)
 now-good v preds names (going no_goals e s (f ∷ k)) es h = record { balanced = frame-keeps f e s k es h }
+now-good v preds names (settling before s gs e k) es h = loaded-good (settlement before s).load (config (left_now (settlement before s).left gs e k) es) (record { balanced = h })
 now-good v preds names (telling text gs e s k) es h = record { balanced = h }
 now-good v preds names failed es h = fail-good es h
 now-good v preds names (raising raised) es h = raise-good raised es h

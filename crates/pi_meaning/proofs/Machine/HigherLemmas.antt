@@ -27,7 +27,7 @@ use Rattle.pi_core.specs.declared.core_program.NameSlot.{NameSlot}
 use Rattle.pi_traces.proofs.BelowLemmas.{below-refl}
 use Rattle.pi_traces.proofs.RelatedLemmas.{Same, same, below-by, by-same, by-one, by-alt, by-then, by-then_same, by-first, by-negated, by-chosen, by-collected, by-counted, by-caught}
 use Rattle.pi_meaning.proofs.CoreMeaning.MeaningLemmas.{calls-below, at-points, all-monotone, any-monotone, meaning-below, strict-below}
-use Rattle.pi_meaning.specs.Machine.Configuration.{Frame, more, return, give, Back, Called, Choice, rules_left, facts_left, branches_left, Strict, once_level, not_level, if_level, guard_level, value_level, list_level, number_level, Entry, choice, strict, catch_level, left, Now, going, failed, raising, Config, after_body, telling}
+use Rattle.pi_meaning.specs.Machine.Configuration.{Frame, more, return, give, Back, Called, Choice, rules_left, facts_left, branches_left, Strict, once_level, not_level, if_level, guard_level, value_level, list_level, number_level, Entry, choice, strict, catch_level, left, Now, going, settling, failed, raising, Config, after_body, telling}
 use Rattle.pi_meaning.specs.Machine.Step.{unresolved}
 use Rattle.pi_meaning.proofs.Machine.EndSteps.{unresolved-raise}
 use Rattle.pi_meaning.proofs.Machine.FactSteps.{behind_fact}
@@ -265,6 +265,8 @@ told-below names t u h =
 now-under : (given : Builtins) (adds : BuiltinsOnlyAdd given) (l m : Level) → LevelBelow l m → (now : Now) → Under (now_trace given l now) (now_trace given m now)
 unfolding now_trace
 now-under given adds l m h (going gs e s k) = run-under given adds l m h gs e s k
+now-under given adds l m h (settling before s gs e k) =
+    by-then_same PointBelow (settled before s) (settled before s) (λ r. run_from given l gs e r k) (λ r. run_from given m gs e r k) (below-refl (settled before s)) (λ r. run-under given adds l m h gs e r k)
 now-under given adds l m h (telling text gs e s k) = note_by (Out text) (run-under given adds l m h gs e s k)
 now-under given adds l m h failed = end_by Done
 now-under given adds l m h (raising ball) = end_by (Raise ball)

@@ -1,5 +1,5 @@
 -- Each step of the machine is right: what remained before it is what the step comes to, and what remains after it.
-use Rattle.std.proofs.Common.{◌≡◌, ℕ, zero, List, [], ◌∷◌, refl, ap, sym, ◌∙◌}
+use Rattle.std.proofs.Common.{◌≡◌, ℕ, zero, suc, List, [], ◌∷◌, refl, ap, sym, ◌∙◌}
 use Rattle.std.specs.Prelude.{Bool, true, false, Option, Some, None, slice_set}
 use Rattle.pi_terms.specs.Tree.{Tree, trees_of, tree_count}
 use Rattle.pi_terms.specs.Copy.{copy, new_variables}
@@ -8,7 +8,7 @@ use Rattle.pi_terms.specs.Places.{Places}
 use Rattle.pi_constraints.specs.State.{State, next}
 use Rattle.pi_core.specs.GoalTree.{GoalTree, truth, fail, tick, call, apply, seq, alternatives, if_else, not, once, collect, count, catch, GoalTrees, no_goals, goal}
 use Rattle.pi_core.specs.CoreTree.{PredTree, find_pred}
-use Rattle.pi_traces.specs.Trace.{Trace, done, one, then, first, note, Out}
+use Rattle.pi_traces.specs.Trace.{Trace, done, one, then, first, note, Load, Out}
 use Rattle.pi_traces.specs.Control.{negated, chosen}
 use Rattle.pi_meaning.specs.Shared.View.{View}
 use Rattle.pi_meaning.specs.CoreMeaning.Builtins.{Builtins}
@@ -24,16 +24,20 @@ use Rattle.pi_meaning.specs.CoreMeaning.Rules.{call_run, application_run, calls_
 use Rattle.pi_meaning.specs.CoreMeaning.Run.{answered_with}
 use Rattle.pi_core.specs.declared.core_program.NameSlot.{NameSlot}
 use Rattle.pi_meaning.proofs.Shared.CallLemmas.{no-later-adds, whole-adds}
-use Rattle.pi_meaning.specs.Machine.Configuration.{Frame, Back, once_level, not_level, if_level, list_level, number_level, Entry, choice, strict, catch_level, left, Now, going, failed, raising, Config, config, behind, telling}
+use Rattle.pi_meaning.specs.Machine.Configuration.{Frame, Back, once_level, not_level, if_level, list_level, number_level, Entry, choice, strict, catch_level, left, Now, going, settling, failed, raising, Config, config, behind, telling}
+use Rattle.pi_settling.specs.Settle.{Settlement, answer_with}
+use Rattle.pi_settling.specs.Settled.{loaded}
+use Rattle.pi_meaning.specs.Shared.Settle.{settlement, settled}
+use Rattle.pi_meaning.proofs.Shared.SettleLemmas.{then-loaded}
 use Rattle.pi_meaning.specs.Machine.Remaining.{run_from, point, continued, level_trace, catch_trace, around, now_trace, remaining_at}
-use Rattle.pi_meaning.specs.Machine.Step.{silently, back_to, inside, branch, frame_step, strict_step, leave, choice_step, end_step, handler_step, below_left, predicate_step, effect_step, function_step, goal_step, Open, none_open, strict_open, catch_open, newest_open, fits, told_step, answer_step, fail_step, raise_step, now_step, step, done_now, value_step, given_now, unknown_ball, later_step, name_step, resource_effect, later_value, other_value, with_rest, name_call}
+use Rattle.pi_meaning.specs.Machine.Step.{silently, back_to, inside, branch, frame_step, strict_step, leave, choice_step, end_step, handler_step, below_left, predicate_step, effect_step, function_step, goal_step, Open, none_open, strict_open, catch_open, newest_open, fits, told_step, answer_step, fail_step, raise_step, now_step, step, done_now, value_step, given_now, unknown_ball, later_step, name_step, resource_effect, later_value, other_value, with_rest, name_call, left_now, loaded_step, settle_step}
 use Rattle.pi_meaning.specs.Machine.Shape.{IsBalanced, IsGood}
 use Rattle.pi_meaning.specs.Machine.Built.{AreOfRules}
 use Rattle.pi_meaning.specs.Machine.Laws.{Comes}
 use Rattle.pi_meaning.proofs.Machine.RuleForms.{found-of-rules}
 use Rattle.pi_meaning.proofs.Machine.StackLemmas.{IsClosed, IsFound, newest-found, note-passes}
 use Rattle.pi_meaning.proofs.Machine.RunLemmas.{CallsAre, calls-are, remains}
-use Rattle.pi_meaning.proofs.Machine.GoalSteps.{Is, goal-does, answer-is, truth-goes_on, branch-is, level-begins, catch-begins, list-begins, number-begins, effect-goes_on, given-goes_on, frame-steps}
+use Rattle.pi_meaning.proofs.Machine.GoalSteps.{Is, goal-does, answer-is, truth-goes_on, branch-is, level-begins, catch-begins, list-begins, number-begins, effect-goes_on, given-goes_on, left-goes_on, frame-steps}
 use Rattle.pi_meaning.proofs.Machine.AnswerSteps.{strict-answer, catch-answer, query-answer, told-answer, told-too_large}
 use Rattle.pi_meaning.proofs.Machine.EndSteps.{choice-ends, strict-ends, catch-ends, left-ends, choice-raises, strict-raises, catch-raises, left-raises}
 use Rattle.pi_meaning.proofs.Machine.CallSteps.{tick-comes, predicate-comes, function-comes}
@@ -119,7 +123,7 @@ effect-step-comes v preds names name args gs e s k es sound b other None f =
 effect-step-comes v preds names name args gs e s k es sound b other (Some d) f =
     let all : EvaluatedAll = evaluated_all (trees_of args) e s in
     given-step-comes v preds names name args gs e s k es (settled_effect v all.state d) (λ l. does-effect v preds l name all.trees all.state d other f)
-    (config (done_now v d gs all.slots k) es) (λ l. effect-goes_on (language v preds) v l all.state d gs all.slots k es)
+    (config (done_now v all.state d gs all.slots k) es) (λ l. effect-goes_on (language v preds) v l all.state d gs all.slots k es)
 
 name-step-comes : (v : View) (preds : List PredTree) (names : List NameSlot) (name : List ℕ) (args : List Tree) (gs : GoalTrees) (e : Places) (s : State) (k : List Frame) (es : List Entry) →
     AreOfRules preds → IsBalanced 0 es →
@@ -324,6 +328,27 @@ telling-comes : (given : Builtins) (l : Level) (names : List NameSlot) (text : L
 unfolding remaining_at now_trace then
 telling-comes given l names text gs e s k es h = ap (λ t. then t (answered_with names)) (note-passes given l es h (Out text) (run_from given l gs e s k))
 
+-- a load passes all that waits, as does what follows it
+loaded-comes : (v : View) (preds : List PredTree) (names : List NameSlot) (now after : Now) (es : List Entry) → IsBalanced 0 es → (n : ℕ) →
+    ((d : ℕ) → now_trace (language v preds) (level_at (language v preds) preds d) now ≡ loaded n (now_trace (language v preds) (level_at (language v preds) preds d) after)) →
+    Comes v preds names (config now es) (loaded_step n (config after es))
+unfolding remaining_at loaded then
+loaded-comes v preds names now after es b zero h =
+    silent v preds names now es (config after es) (λ d. ap (λ t. around (language v preds) (level_at (language v preds) preds d) es t []) (h d))
+loaded-comes v preds names now after es b (suc n) h =
+    λ d. let l : Level = level_at (language v preds) preds d in
+    ap (λ t. then (around (language v preds) l es t []) (answered_with names)) (h d)
+    ∙ ap (λ t. then t (answered_with names)) (note-passes (language v preds) l es b (Load (suc n)) (now_trace (language v preds) l after))
+
+settling-comes : (v : View) (preds : List PredTree) (names : List NameSlot) (before s : State) (gs : GoalTrees) (e : Places) (k : List Frame) (es : List Entry) → IsBalanced 0 es →
+    Comes v preds names (config (settling before s gs e k) es) (settle_step (settlement before s) gs e k es)
+unfolding now_trace settled
+settling-comes v preds names before s gs e k es b =
+    let m : Settlement = settlement before s in
+    loaded-comes v preds names (settling before s gs e k) (left_now m.left gs e k) es b m.load
+    (λ d. let l : Level = level_at (language v preds) preds d in
+    then-loaded m.load (answer_with m.left) (λ r. run_from (language v preds) l gs e r k) ∙ ap (loaded m.load) (left-goes_on (language v preds) l m.left gs e k))
+
 -- ---- all
 
 now-comes : (v : View) (preds : List PredTree) (names : List NameSlot) (now : Now) (es : List Entry) → AreOfRules preds → IsBalanced 0 es →
@@ -334,6 +359,7 @@ now-comes v preds names (going no_goals e s []) es sound b = answer-comes v pred
 now-comes v preds names (going no_goals e s (f ∷ k)) es sound b =
     silent v preds names (going no_goals e s (f ∷ k)) es (frame_step f e s k es)
     (λ d. frame-steps (language v preds) preds (level_at (language v preds) preds d) (calls-are (language v preds) preds d) f e s k es)
+now-comes v preds names (settling before s gs e k) es sound b = settling-comes v preds names before s gs e k es b
 now-comes v preds names (telling text gs e s k) es sound b = λ d. telling-comes (language v preds) (level_at (language v preds) preds d) names text gs e s k es b
 now-comes v preds names failed es sound b = fail-comes v preds names es
 now-comes v preds names (raising raised) es sound b = raise-comes v preds names raised es b

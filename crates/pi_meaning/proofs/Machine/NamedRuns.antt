@@ -19,7 +19,7 @@ use Rattle.pi_traces.specs.Depth.{Below}
 use Rattle.pi_traces.specs.Related.{BelowBy, deeper_by, end_by, note_by}
 use Rattle.pi_traces.proofs.TraceLemmas.{then-assoc, then-one, alt-done}
 use Rattle.pi_traces.proofs.BelowLemmas.{below-refl}
-use Rattle.pi_traces.proofs.RelatedLemmas.{Same, same, by-below, by-one, by-then, by-caught}
+use Rattle.pi_traces.proofs.RelatedLemmas.{Same, same, by-below, by-one, by-then, by-then_same, by-caught}
 use Rattle.pi_meaning.specs.Shared.View.{View}
 use Rattle.pi_meaning.specs.Shared.Settle.{settled}
 use Rattle.pi_meaning.specs.Shared.Level.{Level, Point, calls_at, ticked, or_called}
@@ -215,10 +215,8 @@ slot-strictly v preds d i t e s h =
 
 handled-left : (s : State) (ball : Tree) (f : State → Trace Point) (g : State → Trace State) → ((r : State) → BelowBy Leaves (f r) (g r)) → (o : Option State) →
     BelowBy Leaves (handled_in s ball f o) (handled_in s ball g o)
-unfolding settled then
 handled-left s ball f g each None = end_by (Raise ball)
-handled-left s ball f g each (Some r) =
-    subst (λ t. BelowBy Leaves t (then (settled s r) g)) (sym (alt-done (f r))) (subst (λ t. BelowBy Leaves (f r) t) (sym (alt-done (g r))) (each r))
+handled-left s ball f g each (Some r) = by-then_same Leaves (settled s r) (settled s r) f g (below-refl (settled s r)) each
 
 -- the catch of three terms, behind its Tick
 catch-ran : (v : View) (preds : List PredTree) (d : ℕ) (g ball h : Tree) (s : State) →

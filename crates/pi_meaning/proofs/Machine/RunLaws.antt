@@ -19,9 +19,10 @@ use Rattle.pi_traces.proofs.BelowLemmas.{below-events}
 use Rattle.pi_traces.proofs.CutLemmas.{cut-below, cut-emit, cut-all, cut-at_tick}
 use Rattle.pi_meaning.proofs.CoreMeaning.QueryLemmas.{run-deeper}
 use Rattle.pi_meaning.proofs.Shared.CallLemmas.{no-later-adds, whole-adds}
-use Rattle.pi_meaning.specs.Machine.Configuration.{Frame, Entry, choice, strict, catch_level, left, Now, going, failed, raising, Config, behind, telling}
+use Rattle.pi_meaning.specs.Machine.Configuration.{Frame, Entry, choice, strict, catch_level, left, Now, going, settling, failed, raising, Config, config, behind, telling}
+use Rattle.pi_meaning.specs.Shared.Settle.{settlement}
 use Rattle.pi_meaning.specs.Machine.Remaining.{remaining}
-use Rattle.pi_meaning.specs.Machine.Step.{Outcome, silently, with_tick, quietly, answering, ending, call_step, predicate_step, effect_step, function_step, value_step, goal_step, Open, none_open, strict_open, catch_open, newest_open, fits, told_step, answer_step, fail_step, raise_step, now_step, step, start, writing, deeper, later_step, name_step, later_value, other_value, with_rest, name_call}
+use Rattle.pi_meaning.specs.Machine.Step.{Outcome, silently, with_tick, quietly, answering, ending, call_step, predicate_step, effect_step, function_step, value_step, goal_step, Open, none_open, strict_open, catch_open, newest_open, fits, told_step, answer_step, fail_step, raise_step, now_step, step, start, loading, writing, deeper, left_now, loaded_step, later_step, name_step, later_value, other_value, with_rest, name_call}
 use Rattle.pi_meaning.specs.Machine.Shape.{IsGood}
 use Rattle.pi_meaning.specs.Machine.Built.{AreOfRules}
 use Rattle.pi_meaning.specs.Machine.Laws.{Comes, GoesOnGood}
@@ -42,6 +43,7 @@ IsProper (silently next) = ⊤
 IsProper (with_tick next) = ⊤
 IsProper (quietly next) = ⊤
 IsProper (deeper next) = ⊤
+IsProper (loading n next) = ⊤
 IsProper (writing text next) = ⊤
 IsProper (answering x next) = ⊤
 IsProper (ending e) = e ≢ Deep
@@ -127,10 +129,15 @@ raise-proper raised (strict level b ∷ es) = tt
 raise-proper raised (catch_level ball handler b ∷ es) = tt
 raise-proper raised (left ∷ es) = tt
 
+loaded-proper : (n : ℕ) (c : Config) → IsProper (loaded_step n c)
+loaded-proper zero c = tt
+loaded-proper (suc n) c = tt
+
 now-proper : (v : View) (preds : List PredTree) (names : List NameSlot) (now : Now) (es : List Entry) → IsProper (now_step v preds names now es)
 now-proper v preds names (going (goal g gs) e s k) es = goal-proper v preds g gs e s k es
 now-proper v preds names (going no_goals e s []) es = answer-proper names e s es (newest_open zero es)
 now-proper v preds names (going no_goals e s (f ∷ k)) es = tt
+now-proper v preds names (settling before s gs e k) es = loaded-proper (settlement before s).load (config (left_now (settlement before s).left gs e k) es)
 now-proper v preds names (telling text gs e s k) es = tt
 now-proper v preds names failed es = fail-proper es
 now-proper v preds names (raising raised) es = raise-proper raised es
@@ -176,6 +183,9 @@ outcome-reaches v preds names between n ticks w c h rec (quietly after) comes go
 outcome-reaches v preds names between n ticks w c h rec (deeper after) comes good lighter proper =
     let r : DepthReaches v preds names n after = rec after (omega arith) good in
     (suc r.0, above-cut n (remaining v preds names r.0 after) (remaining v preds names (suc r.0) c) (comes r.0) r.1)
+outcome-reaches v preds names between n ticks w c h rec (loading load after) comes good lighter proper =
+    let r : DepthReaches v preds names n after = rec after (omega arith) good in
+    (r.0, subst (λ t. CutWithoutDeep n t) (sym (comes r.0)) r.1)
 outcome-reaches v preds names between n ticks w c h rec (writing text after) comes good lighter proper =
     let r : DepthReaches v preds names n after = rec after (omega arith) good in
     (r.0, subst (λ t. CutWithoutDeep n t) (sym (comes r.0)) r.1)

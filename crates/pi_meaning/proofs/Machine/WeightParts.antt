@@ -36,12 +36,12 @@ unfolding now_weight
 written-lighter calls true text gs e s k a = omega arith
 written-lighter calls false text gs e s k a = omega arith
 
-pub done-lighter : (calls : CallWeights) (v : View) (d : Effect) (gs : GoalTrees) (e : Places) (k : List Frame) (a : ℕ) → now_weight calls (done_now v d gs e k) a ≤ suc (going_weight calls gs (frames_weight calls k a))
+pub done-lighter : (calls : CallWeights) (v : View) (before : State) (d : Effect) (gs : GoalTrees) (e : Places) (k : List Frame) (a : ℕ) → now_weight calls (done_now v before d gs e k) a ≤ suc (going_weight calls gs (frames_weight calls k a))
 unfolding now_weight
-done-lighter calls v (Succeeds s) gs e k a = omega arith
-done-lighter calls v Fails gs e k a = omega arith
-done-lighter calls v (Writes text s) gs e k a = written-lighter calls (is_body v.within) text gs e s k a
-done-lighter calls v (Raises ball) gs e k a = omega arith
+done-lighter calls v before (Succeeds s) gs e k a = omega arith
+done-lighter calls v before Fails gs e k a = omega arith
+done-lighter calls v before (Writes text s) gs e k a = written-lighter calls (is_body v.within) text gs e s k a
+done-lighter calls v before (Raises ball) gs e k a = omega arith
 
 pub given-lighter : (calls : CallWeights) (d : FunctionEffect) (into : ℕ) (gs : GoalTrees) (e : Places) (k : List Frame) (a : ℕ) → now_weight calls (given_now d into gs e k) a ≤ suc (going_weight calls gs (frames_weight calls k a))
 unfolding now_weight

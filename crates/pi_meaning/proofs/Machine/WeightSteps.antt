@@ -15,8 +15,10 @@ use Rattle.pi_constraints.specs.Evaluation.{EvaluatedAll, evaluated_all, with_ne
 use Rattle.pi_meaning.specs.CoreMeaning.Meaning.{slot_value}
 use Rattle.pi_meaning.specs.CoreMeaning.Run.{Solution}
 use Rattle.pi_core.specs.declared.core_program.NameSlot.{NameSlot}
-use Rattle.pi_meaning.specs.Machine.Configuration.{Frame, Back, Choice, rules_left, facts_left, branches_left, Strict, once_level, not_level, if_level, guard_level, value_level, list_level, number_level, Entry, choice, strict, catch_level, left, Now, going, failed, raising, Config, config, behind, returning, telling}
-use Rattle.pi_meaning.specs.Machine.Step.{back_to, branch, try_clauses, call_step, predicate_step, effect_step, function_step, goal_step, Open, none_open, strict_open, catch_open, newest_open, strict_step, leave, fits, told_step, answer_step, choice_step, end_step, fail_step, handler_step, below_left, raise_step, now_step, step, done_now, given_now, value_step, later_step, name_step, later_value, other_value, resource_effect, silently, with_rest, name_call}
+use Rattle.pi_meaning.specs.Machine.Configuration.{Frame, Back, Choice, rules_left, facts_left, branches_left, Strict, once_level, not_level, if_level, guard_level, value_level, list_level, number_level, Entry, choice, strict, catch_level, left, Now, going, settling, failed, raising, Config, config, behind, returning, telling}
+use Rattle.pi_settling.specs.Settle.{Settlement}
+use Rattle.pi_meaning.specs.Shared.Settle.{settlement}
+use Rattle.pi_meaning.specs.Machine.Step.{back_to, branch, try_clauses, call_step, predicate_step, effect_step, function_step, goal_step, Open, none_open, strict_open, catch_open, newest_open, strict_step, leave, fits, told_step, answer_step, choice_step, end_step, fail_step, handler_step, below_left, raise_step, now_step, step, done_now, given_now, value_step, later_step, name_step, later_value, other_value, resource_effect, silently, with_rest, name_call, left_now, loaded_step, settle_step}
 use Rattle.pi_meaning.specs.Machine.Shape.{IsBalanced, IsGood}
 use Rattle.pi_meaning.specs.Machine.Weight.{CallWeights, goal_weight, goals_weight, branches_weight, going_weight, frames_weight, strict_answer_weight, answer_weight, choice_weight, strict_weight, stack_weight, now_weight, weight_by, weight, GetsLighter, call_weight, clauses_weight, inside_weight, program_calls}
 use Rattle.pi_meaning.proofs.Machine.StackLemmas.{IsClosed, IsFound, newest-found}
@@ -99,7 +101,7 @@ effect-step-lighter v (Some d) preds name args e s gs k es is other =
     let a : ℕ = answer_weight calls 0 es in
     let heavy : _ = call-heavy (is_call name (length args)) (goals_weight calls gs (frames_weight calls k a)) in
     let h : going_weight calls gs (frames_weight calls k a) ≤ goals_weight calls gs (frames_weight calls k a) = going-below calls gs (frames_weight calls k a) in
-    let w : now_weight calls (done_now v d gs all.slots k) a ≤ suc (going_weight calls gs (frames_weight calls k a)) = done-lighter calls v d gs all.slots k a in
+    let w : now_weight calls (done_now v all.state d gs all.slots k) a ≤ suc (going_weight calls gs (frames_weight calls k a)) = done-lighter calls v all.state d gs all.slots k a in
     omega arith
 
 -- `call`, and any other name
@@ -359,12 +361,29 @@ telling-lighter : (calls : CallWeights) (text : List ℕ) (gs : GoalTrees) (e : 
 unfolding weight_by now_weight
 telling-lighter calls text gs e s k es = omega arith
 
+-- what is left weighs less than what is settled
+left-lighter : (calls : CallWeights) (o : Option State) (gs : GoalTrees) (e : Places) (k : List Frame) (a : ℕ) → now_weight calls (left_now o gs e k) a < suc (going_weight calls gs (frames_weight calls k a))
+unfolding now_weight
+left-lighter calls None gs e k a = omega arith
+left-lighter calls (Some r) gs e k a = omega arith
+
+loaded-lighter : (preds : List PredTree) (n : ℕ) (c after : Config) → weight preds after < weight preds c → GetsLighter preds c (loaded_step n after)
+loaded-lighter preds zero c after h = h
+loaded-lighter preds (suc n) c after h = h
+
+settled-lighter : (preds : List PredTree) (before s : State) (gs : GoalTrees) (e : Places) (k : List Frame) (es : List Entry) (m : Settlement) → GetsLighter preds (config (settling before s gs e k) es) (settle_step m gs e k es)
+unfolding weight_by now_weight
+settled-lighter preds before s gs e k es m =
+    loaded-lighter preds m.load (config (settling before s gs e k) es) (config (left_now m.left gs e k) es)
+    (let h : _ = left-lighter (program_calls preds) m.left gs e k (answer_weight (program_calls preds) 0 es) in omega arith)
+
 -- ---- all
 
 now-lighter : (v : View) (preds : List PredTree) (names : List NameSlot) (now : Now) (es : List Entry) → IsBalanced 0 es → GetsLighter preds (config now es) (now_step v preds names now es)
 now-lighter v preds names (going (goal g gs) e s k) es h = goal-lighter v preds g gs e s k es
 now-lighter v preds names (going no_goals e s []) es h = answer-lighter preds names e s es h (newest_open zero es) (newest-found zero es)
 now-lighter v preds names (going no_goals e s (f ∷ k)) es h = frame-lighter (program_calls preds) f e s k es
+now-lighter v preds names (settling before s gs e k) es h = settled-lighter preds before s gs e k es (settlement before s)
 now-lighter v preds names (telling text gs e s k) es h = telling-lighter (program_calls preds) text gs e s k es
 now-lighter v preds names failed es h = fail-lighter preds es
 now-lighter v preds names (raising raised) es h = raise-lighter preds raised es h

@@ -31,7 +31,6 @@ use Rattle.pi_effects.specs.Making.{making_functions}
 use Rattle.pi_effects.specs.BuiltIns.{reading_functions, built_in_function, tests, other_predicates, built_in_predicate, is_predicate}
 use Rattle.pi_traces.specs.Trace.{Trace, end, note, ans, Done, Raise, Deep, Tick, Out, alt, then, first}
 use Rattle.pi_traces.specs.Control.{chosen, caught}
-use Rattle.pi_meaning.specs.Shared.Settle.{settled}
 use Rattle.pi_meaning.specs.Shared.Drain.{drained}
 use Rattle.pi_meaning.specs.Shared.View.{View, query_view, body_view}
 use Rattle.pi_meaning.specs.Shared.Raise.{raised_with}
@@ -42,6 +41,12 @@ use Rattle.pi_meaning.specs.CoreMeaning.Instances.{no_later, whole}
 use Rattle.pi_meaning.specs.CoreMeaning.Meaning.{draining, strictly, calling, applying, catching, meaning, meaning_of_all}
 use Rattle.pi_meaning.specs.CoreMeaning.Rules.{pred_run, function_run, calls_of, rules, quiet_level, level_at}
 use Rattle.pi_meaning.specs.CoreMeaning.Run.{Solution, told, query_trace}
+use Rattle.pi_meaning.specs.Shared.Settle.{settled, settlement, is_unchanged, are_unchanged}
+use Rattle.pi_settling.specs.Settle.{settlement as settlement_of_goal, stable_state, passes, runs_of}
+use Rattle.pi_settling.specs.Settled.{loaded}
+use Rattle.pi_settling.specs.Load.{count_due, same_domain}
+use Rattle.pi_settling.specs.Events.{events_from, variable_events}
+use Rattle.pi_settling.specs.Answers.{activations, activations_from}
 
 -- later stages that give two answers to each predicate, and a number to each function
 abbrev given : Later
@@ -64,7 +69,7 @@ abbrev query : GoalTree → QueryTree
 query g = record { goal = g; helpers = []; names = []; slots = 1 }
 
 unfoldable run_given : Later → View → GoalTree → ℕ → Trace Solution
-unfolding query_trace told draining strictly calling applying catching pred_run function_run calls_of level_at quiet_level rules find_pred meaning meaning_of_all list_of_copies new_in_all with_new_variables then alt first chosen caught evaluated evaluated_all matched_in matched_all_in drained settled thrown exception_with type_error raised_with copy occurrences firsts all_unified unified_for outcome assigned joined in_pairs most_pairs unbound_in cells_of_pairs cells value rounds instance followed followed_for order tree_count each_tree predicate_given predicate_called function_given called_at_level first_called later_predicates is_later_predicate is_later_function done_by has_line integer_functions comparing_tests kind_tests collection_functions sorting_functions index_functions range_functions naming_functions text_functions writing_predicates making_functions reading_functions built_in_function tests other_predicates built_in_predicate is_predicate
+unfolding query_trace told draining strictly calling applying catching pred_run function_run calls_of level_at quiet_level rules find_pred meaning meaning_of_all list_of_copies new_in_all with_new_variables then alt first chosen caught evaluated evaluated_all matched_in matched_all_in drained settled settlement is_unchanged are_unchanged settlement_of_goal stable_state passes runs_of loaded count_due same_domain events_from variable_events activations activations_from thrown exception_with type_error raised_with copy occurrences firsts all_unified unified_for outcome assigned joined in_pairs most_pairs unbound_in cells_of_pairs cells value rounds instance followed followed_for order tree_count each_tree predicate_given predicate_called function_given called_at_level first_called later_predicates is_later_predicate is_later_function done_by has_line integer_functions comparing_tests kind_tests collection_functions sorting_functions index_functions range_functions naming_functions text_functions writing_predicates making_functions reading_functions built_in_function tests other_predicates built_in_predicate is_predicate
 run_given later v g d = query_trace (whole v later program) program (query g) d
 
 abbrev run_under : View → GoalTree → ℕ → Trace Solution

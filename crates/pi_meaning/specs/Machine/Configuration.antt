@@ -53,9 +53,11 @@ pub data Entry : Type 0 where
   catch_level : Tree → GoalTree → Back → Entry
   left : Entry
 
--- what runs: goals, in a block with these slots, from a state, and then frames; a text that is written before that; no further answer here; an exception
+-- what runs: goals, in a block with these slots, from a state, and then frames; the same from a state that is settled first, where a goal began in the first one and left the second; a
+-- text that is written before that; no further answer here; an exception
 pub data Now : Type 0 where
   going : GoalTrees → Places → State → List Frame → Now
+  settling : State → State → GoalTrees → Places → List Frame → Now
   telling : List ℕ → GoalTrees → Places → State → List Frame → Now
   failed : Now
   raising : Tree → Now

@@ -5,13 +5,13 @@ use Rattle.pi_terms.specs.Places.{Places}
 use Rattle.pi_constraints.specs.State.{State}
 use Rattle.pi_core.specs.GoalTree.{GoalTree, no_goals, goal}
 use Rattle.pi_core.specs.CoreTree.{ClauseTree, PredTree, leaves_others}
-use Rattle.pi_traces.specs.Trace.{end, note, ans, Tick, Out}
+use Rattle.pi_traces.specs.Trace.{end, note, ans, Tick, Load, Out}
 use Rattle.pi_traces.specs.Depth.{Below}
 use Rattle.pi_meaning.specs.Shared.View.{View}
 use Rattle.pi_core.specs.declared.core_program.NameSlot.{NameSlot}
 use Rattle.pi_meaning.specs.Machine.Configuration.{Back, Called, once_level, not_level, if_level, guard_level, value_level, Entry, Config}
 use Rattle.pi_meaning.specs.Machine.Remaining.{remaining}
-use Rattle.pi_meaning.specs.Machine.Step.{Outcome, silently, with_tick, quietly, deeper, writing, answering, ending, branch, strict_step, leave, step}
+use Rattle.pi_meaning.specs.Machine.Step.{Outcome, silently, with_tick, quietly, deeper, loading, writing, answering, ending, branch, strict_step, leave, step}
 use Rattle.pi_meaning.specs.Machine.Shape.{IsGood}
 use Rattle.pi_meaning.specs.Machine.Built.{AreOfRules}
 use Rattle.pi_meaning.specs.Machine.Weight.{GetsLighter}
@@ -23,6 +23,7 @@ Comes v preds names c (silently next) = (d : ℕ) → remaining v preds names d 
 Comes v preds names c (with_tick next) = (d : ℕ) → Below (note Tick (remaining v preds names d next)) (remaining v preds names (suc d) c)
 Comes v preds names c (quietly next) = (d : ℕ) → Below (remaining v preds names d next) (remaining v preds names (suc d) c)
 Comes v preds names c (deeper next) = (d : ℕ) → Below (remaining v preds names d next) (remaining v preds names (suc d) c)
+Comes v preds names c (loading n next) = (d : ℕ) → remaining v preds names d c ≡ note (Load n) (remaining v preds names d next)
 Comes v preds names c (writing text next) = (d : ℕ) → remaining v preds names d c ≡ note (Out text) (remaining v preds names d next)
 Comes v preds names c (answering x next) = (d : ℕ) → remaining v preds names d c ≡ ans x (remaining v preds names d next)
 Comes v preds names c (ending e) = (d : ℕ) → remaining v preds names d c ≡ end e
@@ -32,6 +33,7 @@ GoesOnGood (silently next) = IsGood next
 GoesOnGood (with_tick next) = IsGood next
 GoesOnGood (quietly next) = IsGood next
 GoesOnGood (deeper next) = IsGood next
+GoesOnGood (loading n next) = IsGood next
 GoesOnGood (writing text next) = IsGood next
 GoesOnGood (answering x next) = IsGood next
 GoesOnGood (ending e) = ⊤

@@ -19,7 +19,8 @@ use Rattle.pi_meaning.specs.CoreMeaning.Facts.{facts}
 use Rattle.pi_meaning.specs.CoreMeaning.Rules.{chosen_rule, rules, value_at, level_at, rules_by}
 use Rattle.pi_meaning.specs.CoreMeaning.Run.{Solution, answered_with}
 use Rattle.pi_core.specs.declared.core_program.NameSlot.{NameSlot}
-use Rattle.pi_meaning.specs.Machine.Configuration.{Frame, more, return, give, Back, Called, Choice, rules_left, facts_left, branches_left, Strict, once_level, not_level, if_level, guard_level, value_level, list_level, number_level, Entry, choice, strict, catch_level, left, Now, going, telling, failed, raising, Config, after_body}
+use Rattle.pi_meaning.specs.Machine.Configuration.{Frame, more, return, give, Back, Called, Choice, rules_left, facts_left, branches_left, Strict, once_level, not_level, if_level, guard_level, value_level, list_level, number_level, Entry, choice, strict, catch_level, left, Now, going, settling, telling, failed, raising, Config, after_body}
+use Rattle.pi_meaning.specs.Shared.Settle.{settled}
 
 abbrev pub point : Level → Places → State → Point
 point l e s = record { level = l; slots = e; state = s }
@@ -103,6 +104,7 @@ around given l (left ∷ es) t outs = around given l es done (t ∷ outs)
 -- what runs
 unfoldable pub now_trace : Builtins → Level → Now → Trace Point
 now_trace given l (going gs e s k) = run_from given l gs e s k
+now_trace given l (settling before s gs e k) = then (settled before s) (λ r. run_from given l gs e r k)
 now_trace given l (telling text gs e s k) = note (Out text) (run_from given l gs e s k)
 now_trace given l failed = done
 now_trace given l (raising ball) = end (Raise ball)

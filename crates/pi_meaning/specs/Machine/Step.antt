@@ -28,15 +28,18 @@ use Rattle.pi_syntax.specs.declared.program.Mode.{Mode}
 use Rattle.pi_terms.specs.ListCopies.{list_of_copies, new_in_all}
 use Rattle.pi_meaning.specs.CoreMeaning.Run.{Solution}
 use Rattle.pi_core.specs.declared.core_program.NameSlot.{NameSlot}
-use Rattle.pi_meaning.specs.Machine.Configuration.{Frame, more, return, give, Back, Called, Choice, rules_left, facts_left, branches_left, Strict, once_level, not_level, if_level, guard_level, value_level, list_level, number_level, Entry, choice, strict, catch_level, left, Now, going, telling, failed, raising, Config, config, behind, returning, after_body, in_places}
+use Rattle.pi_meaning.specs.Machine.Configuration.{Frame, more, return, give, Back, Called, Choice, rules_left, facts_left, branches_left, Strict, once_level, not_level, if_level, guard_level, value_level, list_level, number_level, Entry, choice, strict, catch_level, left, Now, going, settling, telling, failed, raising, Config, config, behind, returning, after_body, in_places}
+use Rattle.pi_settling.specs.Settle.{Settlement}
+use Rattle.pi_meaning.specs.Shared.Settle.{settlement}
 
 -- what a step comes to: the next configuration; the same after a Tick; the same, where a quiet call was entered; the same, where `call` has led one
--- down; a text that is written and the next configuration; an answer and the next one; the end
+-- down; a load and the next configuration; a text that is written and the next one; an answer and the next one; the end
 pub data Outcome : Type 0 where
   silently : Config → Outcome
   with_tick : Config → Outcome
   quietly : Config → Outcome
   deeper : Config → Outcome
+  loading : ℕ → Config → Outcome
   writing : List ℕ → Config → Outcome
   answering : Solution → Config → Outcome
   ending : End → Outcome
@@ -114,11 +117,11 @@ abbrev pub later_facts : Trees → List ClauseTree → Back → List Entry → L
 later_facts ts [] b es = es
 later_facts ts (c ∷ cs) b es = choice (facts_left ts (c ∷ cs)) b ∷ es
 
--- A fact that unifies: what is behind the call goes on. Those behind the fact stay from the next one on that unifies too, so
+-- A fact that unifies: that is settled, and what is behind the call goes on. Those behind the fact stay from the next one on that unifies too, so
 -- that nothing is left where none does.
 abbrev pub fact_tried : Trees → List ClauseTree → Back → List Entry → Option State → Config → Config
 fact_tried ts cs b es None otherwise = otherwise
-fact_tried ts cs b es (Some r) otherwise = config (going no_goals b.slots r b.frames) (later_facts ts (from_unifying ts b.state cs) b es)
+fact_tried ts cs b es (Some r) otherwise = config (settling b.state r no_goals b.slots b.frames) (later_facts ts (from_unifying ts b.state cs) b es)
 
 -- the first fact that unifies
 unfoldable pub try_facts : Trees → List ClauseTree → Back → List Entry → Config
@@ -162,13 +165,14 @@ abbrev pub written_now : Bool → List ℕ → GoalTrees → Places → State �
 written_now true text gs e s k = raising (atom (codes "output_in_plan"))
 written_now false text gs e s k = telling text gs e s k
 
--- after the effect of a built-in predicate, and of a built-in function, whose value goes into a slot
-abbrev pub done_now : View → Effect → GoalTrees → Places → List Frame → Now
-done_now v (Succeeds s) gs e k = going gs e s k
-done_now v Fails gs e k = failed
-done_now v (Writes text s) gs e k = written_now (is_body v.within) text gs e s k
-done_now v (Raises ball) gs e k = raising ball
+-- after the effect of a built-in predicate, whose goal began in this state
+abbrev pub done_now : View → State → Effect → GoalTrees → Places → List Frame → Now
+done_now v before (Succeeds s) gs e k = settling before s gs e k
+done_now v before Fails gs e k = failed
+done_now v before (Writes text s) gs e k = written_now (is_body v.within) text gs e s k
+done_now v before (Raises ball) gs e k = raising ball
 
+-- after that of a built-in function, whose value goes into a slot
 abbrev pub given_now : FunctionEffect → ℕ → GoalTrees → Places → List Frame → Now
 given_now (Gives t s) into gs e k = going gs (slice_set e into (Some t)) s k
 given_now (Refuses ball) into gs e k = raising ball
@@ -193,7 +197,7 @@ later_step true preds c k es = silently (config (raising (unknown_ball c.name (t
 later_step false preds c k es = predicate_step (find_pred false c.name (tree_count c.all.trees) preds) c.all k es
 
 abbrev pub effect_step : View → Option Effect → List PredTree → NameCall → Rest → Outcome
-effect_step v (Some e) preds c r = silently (config (done_now v e r.goals c.all.slots r.frames) r.stack)
+effect_step v (Some e) preds c r = silently (config (done_now v c.all.state e r.goals c.all.slots r.frames) r.stack)
 effect_step v None preds c r = later_step (is_later_predicate c.name (tree_count c.all.trees)) preds c (behind r.goals r.frames) r.stack
 
 -- ---- `call`
@@ -382,10 +386,10 @@ fail_step (left ∷ es) = silently (config failed es)
 
 -- ---- exceptions
 
--- what is caught runs the handler, anything else is raised on
+-- what is caught is settled and runs the handler, anything else is raised on
 abbrev pub handler_step : GoalTree → Back → Tree → Option State → Now
 handler_step handler b raised None = raising raised
-handler_step handler b raised (Some s) = run_goal handler b.slots s b.frames
+handler_step handler b raised (Some s) = settling b.state s (goal handler no_goals) b.slots b.frames
 
 -- below the `catch` that was left: what is raised comes from behind it
 abbrev pub below_left : Open → List Entry → List Entry
@@ -401,12 +405,28 @@ raise_step raised (catch_level ball handler b ∷ es) =
     silently (config (handler_step handler b raised (unified (with_new_variables (new_variables raised) b.state) ball (copy (next b.state) raised))) es)
 raise_step raised (left ∷ es) = silently (config (raising raised) (below_left (newest_open zero es) es))
 
+-- ---- settling
+
+-- what is left goes on; where nothing is, there is no further answer here
+abbrev pub left_now : Option State → GoalTrees → Places → List Frame → Now
+left_now None gs e k = failed
+left_now (Some s) gs e k = going gs e s k
+
+-- a load is told where it is above 0
+abbrev pub loaded_step : ℕ → Config → Outcome
+loaded_step zero c = silently c
+loaded_step (suc n) c = loading (suc n) c
+
+abbrev pub settle_step : Settlement → GoalTrees → Places → List Frame → List Entry → Outcome
+settle_step m gs e k es = loaded_step m.load (config (left_now m.left gs e k) es)
+
 -- ---- all
 
 abbrev pub now_step : View → List PredTree → List NameSlot → Now → List Entry → Outcome
 now_step v preds names (going (goal g gs) e s k) es = goal_step v preds g e s (with_rest gs k es)
 now_step v preds names (going no_goals e s (f ∷ k)) es = silently (frame_step f e s k es)
 now_step v preds names (going no_goals e s []) es = answer_step names e s es (newest_open zero es)
+now_step v preds names (settling before s gs e k) es = settle_step (settlement before s) gs e k es
 now_step v preds names (telling text gs e s k) es = writing text (config (going gs e s k) es)
 now_step v preds names failed es = fail_step es
 now_step v preds names (raising raised) es = raise_step raised es

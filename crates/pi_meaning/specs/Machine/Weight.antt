@@ -7,8 +7,8 @@ use Rattle.pi_core.specs.CoreTree.{ClauseTree, PredTree, find_pred}
 use Rattle.pi_meaning.specs.Shared.Names.{is_call, is_given}
 use Rattle.pi_meaning.specs.CoreMeaning.Quiet.{TicksBetween}
 use Rattle.pi_syntax.specs.declared.program.Mode.{Mode}
-use Rattle.pi_meaning.specs.Machine.Configuration.{Frame, more, return, give, Choice, rules_left, facts_left, branches_left, Strict, once_level, not_level, if_level, guard_level, value_level, list_level, number_level, Entry, choice, strict, catch_level, left, Now, going, telling, failed, raising, Config}
-use Rattle.pi_meaning.specs.Machine.Step.{Outcome, silently, with_tick, quietly, deeper, writing, answering, ending}
+use Rattle.pi_meaning.specs.Machine.Configuration.{Frame, more, return, give, Choice, rules_left, facts_left, branches_left, Strict, once_level, not_level, if_level, guard_level, value_level, list_level, number_level, Entry, choice, strict, catch_level, left, Now, going, settling, telling, failed, raising, Config}
+use Rattle.pi_meaning.specs.Machine.Step.{Outcome, silently, with_tick, quietly, deeper, loading, writing, answering, ending}
 
 -- what calls weigh by what they enter without a Tick: those of a function, or else of a predicate, by name and number of
 -- arguments and by what is behind
@@ -71,7 +71,7 @@ rules_weight calls (c ∷ cs) behind = goal_weight calls c.guard (suc (goal_weig
 -- facts that are tried
 unfoldable pub facts_weight : List ClauseTree → ℕ → ℕ
 facts_weight [] behind = 0
-facts_weight (c ∷ cs) behind = behind + suc (facts_weight cs behind)
+facts_weight (c ∷ cs) behind = suc behind + suc (facts_weight cs behind)
 
 -- ---- quiet calls
 
@@ -149,6 +149,7 @@ stack_weight calls (left ∷ es) = suc (stack_weight calls es)
 -- what runs, by what an answer weighs
 unfoldable pub now_weight : CallWeights → Now → ℕ → ℕ
 now_weight calls (going gs e s k) answer = going_weight calls gs (frames_weight calls k answer)
+now_weight calls (settling before s gs e k) answer = suc (going_weight calls gs (frames_weight calls k answer))
 now_weight calls (telling text gs e s k) answer = suc (going_weight calls gs (frames_weight calls k answer))
 now_weight calls failed answer = 0
 now_weight calls (raising ball) answer = 1
@@ -165,6 +166,7 @@ GetsLighter preds c (silently next) = weight preds next < weight preds c
 GetsLighter preds c (with_tick next) = ⊤
 GetsLighter preds c (quietly next) = TicksBetween preds → weight preds next < weight preds c
 GetsLighter preds c (deeper next) = weight preds next < weight preds c
+GetsLighter preds c (loading n next) = weight preds next < weight preds c
 GetsLighter preds c (writing text next) = weight preds next < weight preds c
 GetsLighter preds c (answering x next) = weight preds next < weight preds c
 GetsLighter preds c (ending e) = ⊤

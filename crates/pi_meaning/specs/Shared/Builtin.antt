@@ -4,7 +4,7 @@ use Rattle.pi_terms.specs.Tree.{Trees, atom}
 use Rattle.pi_constraints.specs.State.{State}
 use Rattle.pi_effects.specs.Effect.{Effect, Succeeds, Fails, Writes, Raises, FunctionEffect, Gives, Refuses}
 use Rattle.pi_effects.specs.BuiltIns.{built_in_predicate, built_in_function}
-use Rattle.pi_traces.specs.Trace.{Trace, end, note, Raise, Out, done, one, then}
+use Rattle.pi_traces.specs.Trace.{Trace, end, note, Raise, Out, done, one}
 use Rattle.pi_meaning.specs.Shared.Settle.{settled}
 use Rattle.pi_meaning.specs.Shared.Within.{is_body}
 use Rattle.pi_meaning.specs.Shared.View.{View}
@@ -15,20 +15,16 @@ abbrev pub written : Bool → List ℕ → State → Trace State
 written true text s = end (Raise (atom (codes "output_in_plan")))
 written false text s = note (Out text) (one s)
 
--- the trace of an effect under a view
-abbrev pub effect_trace : View → Effect → Trace State
-effect_trace v (Succeeds s) = one s
-effect_trace v Fails = done
-effect_trace v (Writes text s) = written (is_body v.within) text s
-effect_trace v (Raises ball) = end (Raise ball)
-
 abbrev pub function_trace : FunctionEffect → Trace Applied
 function_trace (Gives t s) = one (record { value = t; state = s })
 function_trace (Refuses ball) = end (Raise ball)
 
--- a predicate's effect, settled, where its goal began in this state
+-- the trace of a predicate's effect under a view, settled, where its goal began in this state; what writes leaves nothing to settle
 abbrev pub settled_effect : View → State → Effect → Trace State
-settled_effect v s e = then (effect_trace v e) (settled s)
+settled_effect v before (Succeeds s) = settled before s
+settled_effect v before Fails = done
+settled_effect v before (Writes text s) = written (is_body v.within) text s
+settled_effect v before (Raises ball) = end (Raise ball)
 
 -- what a predicate of the tables does under a view, from the state of its call; None for any other name
 unfoldable pub effect : View → List ℕ → Trees → State → Option (Trace State)
