@@ -27,7 +27,7 @@ use Rattle.pi_engine_arenas.specs.Blocks.{BlocksView, KeepsBlocks}
 use Rattle.pi_engine_arenas.specs.Arenas.{ArenasView, between}
 use Rattle.pi_engine_arenas.specs.Frames.{point_behind, slot_number}
 use Rattle.pi_meaning.specs.declared.happening.Mode.{Mode}
-use Rattle.pi_meaning.specs.Machine.Configuration.{Frame, going, telling, failed, raising, Entry as EntryData}
+use Rattle.pi_meaning.specs.Machine.Configuration.{Frame, going, telling, failed, raising, Entry as EntryData, settling}
 use Rattle.pi_meaning.specs.Machine.Step.{done_now, written_now, goal_step, with_rest}
 use Rattle.pi_meaning.proofs.Machine.CallFound.{effect-comes-to, value-comes-to}
 use Rattle.pi_engine_stands.specs.Here.{Block}
@@ -45,6 +45,7 @@ use Rattle.pi_engine_stands.proofs.SlotsGiven.{slot-written}
 use Rattle.pi_engine_stands.proofs.EqualStands.{block_of, kind-of-node, going-behind, writes-kept, stack-moved, going-moved, lies-moved}
 use Rattle.pi_engine_stands.proofs.RestLemmas.{news-rest, evaluated-all-rests}
 use Rattle.pi_engine_stands.proofs.StacksLie.{stack-lies, any-below}
+use Rattle.pi_engine_stands.proofs.SettlesFirst.{settling-rests}
 
 -- ---- what is done
 
@@ -82,13 +83,13 @@ told-now w (Mode.Inner (pos rest)) view text p gs e k now fits is told =
     subst (λ b. NowIs w now (written_now b text gs e w.store.now.state k)) (sym (ap is_body fits)) (subst (λ n. NowIs w n (written_now true text gs e w.store.now.state k)) (sym told) raising_now)
 told-now w (Mode.Inner (negsuc rest)) view text p gs e k now fits is told = absurd fits
 
-next-now : {M : Type 0} (w : World M) (mode : Mode) (view : View) (d : Effect) (p : Point) (gs : GoalTrees) (e : Places) (k : List Frame) (now : Now) → Fits mode view → GoingIs w p gs e k → ComesNext mode p d w.store.now.state now → NowIs w now (done_now view d gs e k)
-next-now w mode view (Succeeds r) p gs e k now fits is next =
-    subst (λ q. NowIs w now (going gs e q k)) (sym next.0) (subst (λ n. NowIs w n (going gs e w.store.now.state k)) (sym next.1) (going_now is))
-next-now w mode view Fails p gs e k now fits is next = subst (λ n. NowIs w n failed) (sym next) failing_now
-next-now w mode view (WritesText text r) p gs e k now fits is next =
+next-now : {M : Type 0} (w : World M) (mode : Mode) (view : View) (before : State) (d : Effect) (p : Point) (gs : GoalTrees) (e : Places) (k : List Frame) (now : Now) → Fits mode view → Rests w.store.now.state → GoingIs w p gs e k → ComesNext mode p d w.store.now.state now → NowIs w now (done_now view before d gs e k)
+next-now w mode view before (Succeeds r) p gs e k now fits rests is next =
+    subst (λ q. NowIs w now (settling before q gs e k)) (sym next.0) (subst (λ n. NowIs w n (settling before w.store.now.state gs e k)) (sym next.1) (settling-rests w p before gs e k rests is))
+next-now w mode view before Fails p gs e k now fits rests is next = subst (λ n. NowIs w n failed) (sym next) failing_now
+next-now w mode view before (WritesText text r) p gs e k now fits rests is next =
     subst (λ q. NowIs w now (written_now (is_body view.within) text gs e q k)) (sym next.0) (told-now w mode view text p gs e k now fits is next.1)
-next-now w mode view (Raises ball) p gs e k now fits is next = subst (λ n. NowIs w n (raising ball)) (sym next) raising_now
+next-now w mode view before (Raises ball) p gs e k now fits rests is next = subst (λ n. NowIs w n (raising ball)) (sym next) raising_now
 
 pub effect-step : {M : Type 0} (w : World M) (v u : StoreView M) (c : ArenasView M) (p : Point) (s : Step) (built : Predicate) (name first arity : ℕ) (rs : List Ref) (d : Effect) (mode : Mode) (now : Now) (view : View) (g : GoalTree) (gs : GoalTrees) (e : Places) (k : List Frame) (es : List EntryData) →
     s.node ≡ Node.BuiltIn built name first arity → slice_get (steps_of w.loaded) p.place ≡ Some s → (stands : StandsGoing w p (goal g gs) e k es) → Fits mode view →
@@ -110,7 +111,7 @@ effect-step w v u c p s built name first arity rs d mode now view g gs e k es no
     going-behind (moved w u c) p s g gs all.slots k at (going-moved w u c p (goal g gs) e all.slots u.now.state k es stands.entries is writes) in
     subst (λ h. StandsAfter (moved w u c) now (goal_step view w.loaded.preds h e w.store.now.state (with_rest gs k es))) (sym it)
     (subst (StandsAfter (moved w u c) now) (sym (effect-comes-to view w.loaded.preds word args d gs e w.store.now.state k es does))
-    (record { entries = any-below (moved w u c) (done_now view d gs all.slots k) es (stack-moved w u c is.block all.slots u.now.state es writes state stands.entries); runs = next-now (moved w u c) mode view d (point_behind p s) gs all.slots k now fits behind next }))
+    (record { entries = any-below (moved w u c) (done_now view all.state d gs all.slots k) es (stack-moved w u c is.block all.slots u.now.state es writes state stands.entries); runs = next-now (moved w u c) mode view all.state d (point_behind p s) gs all.slots k now fits state behind next }))
 
 -- ---- a function
 

@@ -21,7 +21,7 @@ use Rattle.pi_core.specs.GoalCells.{kind_of}
 use Rattle.pi_core.specs.declared.goal_node.GoalKind.{GoalKind}
 use Rattle.pi_constraints.specs.Value.{value}
 use Rattle.pi_engine_stands.specs.Makes.{raised_for}
-use Rattle.pi_meaning.specs.Machine.Configuration.{Frame, Entry, Now, going, failed, raising, config}
+use Rattle.pi_meaning.specs.Machine.Configuration.{Frame, Entry, Now, going, failed, raising, config, settling}
 use Rattle.pi_meaning.specs.Machine.Step.{silently, done_now, goal_step, with_rest}
 
 pub apply-of : (g : GoalTree) (name : List ℕ) (ts : List Tree) (into : ℕ) → GoalKind.Apply name ts into ≡ kind_of g → g ≡ apply name ts into
@@ -75,23 +75,23 @@ catch-of (catch g ball handler) b h = (g, handler, cc)
 -- ---- a unification
 
 -- what follows a unification
-abbrev pub after_equal : Option State → GoalTrees → Places → List Frame → Now
-after_equal None gs e k = failed
-after_equal (Some r) gs e k = going gs e r k
+abbrev pub after_equal : State → Option State → GoalTrees → Places → List Frame → Now
+after_equal before None gs e k = failed
+after_equal before (Some r) gs e k = settling before r gs e k
 
-after-one : (v : View) (o : Option State) (gs : GoalTrees) (e : Places) (k : List Frame) → done_now v (succeeds_in o) gs e k ≡ after_equal o gs e k
-after-one v None gs e k = refl
-after-one v (Some r) gs e k = refl
+after-one : (v : View) (before : State) (o : Option State) (gs : GoalTrees) (e : Places) (k : List Frame) → done_now v before (succeeds_in o) gs e k ≡ after_equal before o gs e k
+after-one v before None gs e k = refl
+after-one v before (Some r) gs e k = refl
 
 pub equal-comes-to : (v : View) (preds : List PredTree) (l r : Tree) (gs : GoalTrees) (e : Places) (s : State) (k : List Frame) (es : List Entry) →
     let x : Evaluated = evaluated l e s in
     let y : Evaluated = evaluated r x.slots x.state in
-    goal_step v preds (call (codes "=") (l ∷ r ∷ [])) e s (with_rest gs k es) ≡ silently (config (after_equal (unified y.state x.tree y.tree) gs y.slots k) es)
+    goal_step v preds (call (codes "=") (l ∷ r ∷ [])) e s (with_rest gs k es) ≡ silently (config (after_equal y.state (unified y.state x.tree y.tree) gs y.slots k) es)
 unfolding goal_step evaluated built_in_predicate tests comparing_tests kind_tests writing_predicates other_predicates done_by tree_count
 equal-comes-to v preds l r gs e s k es =
     let x : Evaluated = evaluated l e s in
     let y : Evaluated = evaluated r x.slots x.state in
-    ap (λ n. silently (config n es)) (after-one v (unified y.state x.tree y.tree) gs y.slots k)
+    ap (λ n. silently (config n es)) (after-one v y.state (unified y.state x.tree y.tree) gs y.slots k)
 
 -- ---- an exception
 

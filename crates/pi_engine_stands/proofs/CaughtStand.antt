@@ -24,8 +24,8 @@ use Rattle.pi_engine_code.specs.declared.code.Step.{Step}
 use Rattle.pi_engine_arenas.specs.declared.run.Now.{Now}
 use Rattle.pi_engine_code.specs.Code.{Tables, tables_of, node_kind, operand_tree, StandsAt, child_place}
 use Rattle.pi_engine_arenas.specs.Arenas.{ArenasView, DropsNewest, between}
-use Rattle.pi_meaning.specs.Machine.Configuration.{Frame, Entry as EntryData, config, raising}
-use Rattle.pi_meaning.specs.Machine.Step.{raise_step, handler_step, run_goal}
+use Rattle.pi_meaning.specs.Machine.Configuration.{Frame, Entry as EntryData, config, raising, settling}
+use Rattle.pi_meaning.specs.Machine.Step.{raise_step, handler_step}
 use Rattle.pi_engine_stands.specs.Here.{Block, SayLast, Holds}
 use Rattle.pi_engine_stands.specs.Stands.{World, tables_in, steps_of, now_here, block_at, Agrees, GoalStands, KindIs, rules_kind, facts_kind, branches_kind, once_kind, not_kind, if_kind, guard_kind, apply_kind, collect_kind, count_kind, catch_kind, exit_kind, StackStands, Stands, NowIs, going_now, raising_now, GoingIs}
 use Rattle.pi_engine_stands.specs.Evaluates.{Writes, Evaluates}
@@ -43,6 +43,7 @@ use Rattle.pi_engine_stands.specs.Changes.{change}
 use Rattle.pi_engine_stands.proofs.RestLemmas.{news-rest, answered-rests}
 use Rattle.pi_engine_stands.proofs.StacksLie.{stack-lies}
 use Rattle.pi_constraints.proofs.KeepsLemmas.{news-keep}
+use Rattle.pi_engine_stands.proofs.SettlesFirst.{settling-rests}
 
 -- ---- the handler
 
@@ -128,11 +129,11 @@ follows w u c base place frame at_child g handler wanted ball e k es None found 
     (record { entries = lies-moved w u c (block_at w.loaded place base) e u.now.state es writes (stack-lies w es stands); runs = raising_now })
 follows w u c base place frame at_child g handler wanted ball e k es (Some r) found now stands own agrees writes state child_is answers follows_it =
     let it : GoalWritten (moved w u c) base place frame (catch g wanted handler) e k = goal-written w u c base place frame (catch g wanted handler) e e u.now.state k es stands own agrees writes in
-    subst (λ q. Stands (moved w u c) q (config (run_goal handler e r k) es)) (sym (follows_it ∙ ap (λ q. if q then Now.Going (record { place = at_child; count = 1; base = base; frame = frame }) else Now.Raising ball) answers.0))
+    subst (λ q. Stands (moved w u c) q (config (settling w.store.now.state r (goal handler no_goals) e k) es)) (sym (follows_it ∙ ap (λ q. if q then Now.Going (record { place = at_child; count = 1; base = base; frame = frame }) else Now.Raising ball) answers.0))
     (record {
       entries = stack-moved w u c (block_at w.loaded place base) e u.now.state es writes (state answers.0) stands;
-      runs = subst (λ q. NowIs (moved w u c) (Now.Going (record { place = at_child; count = 1; base = base; frame = frame })) (run_goal handler e q k)) answers.1
-          (going_now (subst (λ n. GoingIs (moved w u c) (record { place = n; count = 1; base = base; frame = frame }) (goal handler no_goals) e k) (sym (child_is answers.0))
+      runs = subst (λ q. NowIs (moved w u c) (Now.Going (record { place = at_child; count = 1; base = base; frame = frame })) (settling w.store.now.state q (goal handler no_goals) e k)) answers.1
+          (settling-rests (moved w u c) (record { place = at_child; count = 1; base = base; frame = frame }) w.store.now.state (goal handler no_goals) e k (state answers.0) (subst (λ n. GoingIs (moved w u c) (record { place = n; count = 1; base = base; frame = frame }) (goal handler no_goals) e k) (sym (child_is answers.0))
           (handler-runs (moved w u c) base place frame g handler wanted e k it.goal it.agrees)));
     })
 

@@ -40,6 +40,7 @@ use Rattle.pi_engine_stands.proofs.WritesStand.{WritesTo, stack-written, going-w
 use Rattle.pi_engine_stands.proofs.CallLemmas.{call-of, after_equal, equal-comes-to, throw-comes-to}
 use Rattle.pi_engine_stands.proofs.RestLemmas.{evaluated-rests, answered-rests}
 use Rattle.pi_engine_stands.proofs.StacksLie.{stack-lies}
+use Rattle.pi_engine_stands.proofs.SettlesFirst.{settling-rests}
 
 -- ---- a goal that stands at a step
 
@@ -130,18 +131,18 @@ going-moved w v c p gs e f s k es stands is writes =
 abbrev pub block_of : {M : Type 0} (w : World M) (p : Point) (g : GoalTree) (gs : GoalTrees) (e : Places) (k : List Frame) (es : List EntryData) → StandsGoing w p (goal g gs) e k es → Block
 block_of w p g gs e k es stands = (going-of w p (goal g gs) e w.store.now.state k stands.runs).block
 
-equal-by : {M : Type 0} (w : World M) (v : StoreView M) (c : ArenasView M) (p : Point) (s : Step) (g : GoalTree) (gs : GoalTrees) (e f : Places) (k : List Frame) (es : List EntryData) (o : Option State) (one : Bool) (now : Now) →
+equal-by : {M : Type 0} (w : World M) (v : StoreView M) (c : ArenasView M) (p : Point) (s : Step) (g : GoalTree) (gs : GoalTrees) (e f : Places) (k : List Frame) (es : List EntryData) (before : State) (o : Option State) (one : Bool) (now : Now) →
     slice_get (steps_of w.loaded) p.place ≡ Some s → StackStands w es → (is : GoingIs w p (goal g gs) e k) → Writes is.block (between w.store v w.arenas c) f v.now.state → (one ≡ true → Rests v.now.state) →
-    Answers o one v.now.state → now ≡ (if one then Now.Going (point_behind p s) else Now.Failing) → Stands (moved w v c) now (config (after_equal o gs f k) es)
-equal-by w v c p s g gs e f k es None one now at entries is writes state answers next =
-    subst (λ r. Stands (moved w v c) r (config (after_equal None gs f k) es)) (sym (next ∙ ap (λ q. if q then Now.Going (point_behind p s) else Now.Failing) answers))
+    Answers o one v.now.state → now ≡ (if one then Now.Going (point_behind p s) else Now.Failing) → Stands (moved w v c) now (config (after_equal before o gs f k) es)
+equal-by w v c p s g gs e f k es before None one now at entries is writes state answers next =
+    subst (λ r. Stands (moved w v c) r (config (after_equal before None gs f k) es)) (sym (next ∙ ap (λ q. if q then Now.Going (point_behind p s) else Now.Failing) answers))
     (record { entries = lies-moved w v c is.block f v.now.state es writes (stack-lies w es entries); runs = failing_now })
-equal-by w v c p s g gs e f k es (Some r) one now at entries is writes state answers next =
-    subst (λ q. Stands (moved w v c) q (config (after_equal (Some r) gs f k) es)) (sym (next ∙ ap (λ q. if q then Now.Going (point_behind p s) else Now.Failing) answers.0))
+equal-by w v c p s g gs e f k es before (Some r) one now at entries is writes state answers next =
+    subst (λ q. Stands (moved w v c) q (config (after_equal before (Some r) gs f k) es)) (sym (next ∙ ap (λ q. if q then Now.Going (point_behind p s) else Now.Failing) answers.0))
     (record {
       entries = stack-moved w v c is.block f v.now.state es writes (state answers.0) entries;
-      runs = subst (λ q. NowIs (moved w v c) (Now.Going (point_behind p s)) (after_equal (Some q) gs f k)) answers.1
-          (going_now (going-behind (moved w v c) p s g gs f k at (going-moved w v c p (goal g gs) e f v.now.state k es entries is writes)));
+      runs = subst (λ q. NowIs (moved w v c) (Now.Going (point_behind p s)) (after_equal before (Some q) gs f k)) answers.1
+          (settling-rests (moved w v c) (point_behind p s) before gs f k (state answers.0) (going-behind (moved w v c) p s g gs f k at (going-moved w v c p (goal g gs) e f v.now.state k es entries is writes)));
     })
 
 -- both operands evaluated, one after the other
@@ -174,7 +175,7 @@ equal-step w v u c p s left right q one now view g gs e k es node at stands both
     writes-then is.block w.store v u w.arenas c c y.slots y.slots y.state u.now.state both.writes (writes-kept is.block v u c y.slots keeps both.writes.holds) in
     subst (λ h. StandsAfter (moved w u c) now (goal_step view w.loaded.preds h e w.store.now.state (with_rest gs k es))) (sym it)
     (subst (λ h. StandsAfter (moved w u c) now h) (sym (equal-comes-to view w.loaded.preds l r gs e w.store.now.state k es))
-    (equal-by w u c p s g gs e y.slots k es (unified y.state x.tree y.tree) one now at stands.entries is all
+    (equal-by w u c p s g gs e y.slots k es y.state (unified y.state x.tree y.tree) one now at stands.entries is all
     (λ so. answered-rests y.state u.now.state x.tree y.tree one (evaluated-rests r x.slots x.state (evaluated-rests l e w.store.now.state stands.entries.state)) state answers so) answers next))
 
 -- what is next

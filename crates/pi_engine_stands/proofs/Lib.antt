@@ -63,6 +63,7 @@ pub mod BuiltInStands
 pub mod SilentSteps
 pub mod ReadsHere
 pub mod ApplyRuns
+pub mod SettlesFirst
 pub mod GoalsGo
 pub mod StopsGo
 pub mod KnownGoals

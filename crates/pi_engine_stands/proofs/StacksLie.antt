@@ -6,7 +6,7 @@ use Rattle.pi_constraints.specs.Store.{StoreView, Stays}
 use Rattle.pi_engine_arenas.specs.declared.frames.Point.{Point}
 use Rattle.pi_engine_arenas.specs.declared.run.Now.{Now}
 use Rattle.pi_engine_arenas.specs.Arenas.{ArenasView, between}
-use Rattle.pi_meaning.specs.Machine.Configuration.{Entry as EntryData, Now as NowData, going, telling, failed, raising}
+use Rattle.pi_meaning.specs.Machine.Configuration.{Entry as EntryData, Now as NowData, going, settling, telling, failed, raising}
 use Rattle.pi_engine_stands.specs.Here.{Block}
 use Rattle.pi_engine_stands.specs.Stands.{World, StackLies, StackStands, StackBelow, NowIs, going_now}
 use Rattle.pi_engine_stands.specs.Rests.{Rests}
@@ -20,12 +20,14 @@ lies-stand w es is state = record { code = is.code; state = state; tables = is.t
 -- a stack is below whatever runs
 pub any-below : {M : Type 0} (w : World M) (x : NowData) (es : List EntryData) → StackStands w es → StackBelow w x es
 any-below w (going gs e s k) es is = is
+any-below w (settling before s gs e k) es is = is
 any-below w (telling text gs e s k) es is = is
 any-below w failed es is = stack-lies w es is
 any-below w (raising ball) es is = stack-lies w es is
 
 pub below-lies : {M : Type 0} (w : World M) (x : NowData) (es : List EntryData) → StackBelow w x es → StackLies w es
 below-lies w (going gs e s k) es is = stack-lies w es is
+below-lies w (settling before s gs e k) es is = stack-lies w es is
 below-lies w (telling text gs e s k) es is = stack-lies w es is
 below-lies w failed es is = is
 below-lies w (raising ball) es is = is

@@ -39,7 +39,7 @@ use Rattle.pi_engine_stands.proofs.EqualStands.{block_of, kind-of-node, stack-mo
 use Rattle.pi_engine_stands.proofs.CallLemmas.{call-of}
 use Rattle.pi_engine_stands.proofs.CallRuns.{all-count, GivesBack, said-last, room-of}
 use Rattle.pi_engine_stands.proofs.CallMade.{returning-some, arguments-added, Room, room-front, room-limit, front-more, Caller, frames-made, stack-below, level-below}
-use Rattle.pi_engine_stands.proofs.GoalsGo.{GoalThere, goal-there, unspent, silent-ticks, deeper-on, by-goal}
+use Rattle.pi_engine_stands.proofs.GoalsGo.{GoalThere, goal-there, unspent, silent-ticks, deeper-on, by-goal, at_goal, goal-first}
 use Rattle.pi_engine_stands.proofs.HeadsMatch.{front-then}
 use Rattle.pi_engine_stands.proofs.LevelSteps.{kept-within}
 use Rattle.pi_engine_stands.specs.Changes.{change}
@@ -96,9 +96,11 @@ term-goes before after p s operands arity now mode b same node runs v fits names
     let next : Config = config (term_next before operands arity it.gs it.e it.k) c.stack in
     let form : goal_step v before.loaded.preds it.g it.e before.store.now.state (with_rest it.gs it.k c.stack) ≡ deeper next = term-form before p s operands arity v it.g it.gs it.e it.k c.stack node is.at it.stands in
     let stands : Stands after now next = subst (StandsAfter after now) form (runs v it.g it.gs it.e it.k c.stack is.at it.stands) in
-    silent-ticks v names mode b after now c
-    (deeper-on v names after now c next (subst (λ l. AreOfRules l.preds) same is.rules) is.good (ap (λ l. step v l.preds names c) (sym same) ∙ by-goal before p c v names it ∙ form) stands)
-    (unspent after mode b now next stands)
+    let d : Config = at_goal before p c it in
+    goal-first before after p c v names mode b b now same is.rules is.good it
+    (λ good. silent-ticks v names mode b after now d
+    (deeper-on v names after now d next (subst (λ l. AreOfRules l.preds) same is.rules) good (ap (λ l. step v l.preds names d) (sym same) ∙ by-goal before p c v names it ∙ form) stands)
+    (unspent after mode b now next stands))
 
 -- what can be said of the arguments once they were evaluated
 pub record TermReads {M : Type 0} (w : World M) (p : Point) (g : GoalTree) (gs : GoalTrees) (e : Places) (k : List Frame) (es : List EntryData) (stands : StandsGoing w p (goal g gs) e k es) (operands arity : ℕ) : Type 0 where

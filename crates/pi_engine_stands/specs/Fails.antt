@@ -7,7 +7,7 @@ use Rattle.pi_engine_arenas.specs.declared.run.Now.{Now}
 use Rattle.pi_engine_arenas.specs.Arenas.{entry_at, newest, slots_kept_by}
 use Rattle.pi_engine_arenas.specs.declared.arenas.Entry.{Entry}
 use Rattle.pi_meaning.specs.Machine.Configuration.{Entry as EntryData, choice, branches_left, Strict, strict, Back as BackData}
-use Rattle.pi_meaning.specs.Machine.Step.{Outcome, silently, with_tick, quietly, deeper, writing, answering, ending, branch, end_step, fail_step}
+use Rattle.pi_meaning.specs.Machine.Step.{Outcome, silently, with_tick, quietly, deeper, loading, writing, answering, ending, branch, end_step, fail_step}
 use Rattle.pi_core.specs.GoalTree.{GoalTrees}
 use Rattle.pi_engine_stands.specs.Stands.{World, tables_in, entries_of, now_here, back_here, IsCodeOf, EntryIs, StackIs, StackLies, Stands}
 use Rattle.pi_constraints.specs.Store.{Extend}
@@ -25,6 +25,7 @@ ComesTo w now (silently c) = Stands w now c
 ComesTo w now (with_tick c) = ⊥
 ComesTo w now (quietly c) = ⊥
 ComesTo w now (deeper c) = ⊥
+ComesTo w now (loading n c) = ⊥
 ComesTo w now (writing text c) = ⊥
 ComesTo w now (answering x c) = ⊥
 ComesTo w now (ending e) = IsEnded now e

@@ -35,7 +35,8 @@ use Rattle.pi_engine_arenas.specs.Arenas.{ArenasView, entry_at, newest, slots_ke
 use Rattle.pi_engine_arenas.specs.declared.arenas.Entry.{Entry}
 use Rattle.pi_engine_stands.specs.Here.{Block, block_end, Holds, HoldsArguments, IsHere, AreHere, AreBranches, valued, Ends, in_block, with_value, Here, LeftBehind, GoesOn}
 use Rattle.pi_meaning.specs.Machine.Shape.{open_level}
-use Rattle.pi_meaning.specs.Machine.Configuration.{Called, rules_left, facts_left, branches_left, once_level, not_level, if_level, guard_level, value_level, list_level, number_level, Frame, Entry as EntryData, choice, strict, catch_level, left, Now as NowData, going, telling, failed, raising, Config, config}
+use Rattle.pi_meaning.specs.Shared.Settle.{settlement}
+use Rattle.pi_meaning.specs.Machine.Configuration.{Called, rules_left, facts_left, branches_left, once_level, not_level, if_level, guard_level, value_level, list_level, number_level, Frame, Entry as EntryData, choice, strict, catch_level, left, Now as NowData, going, settling, telling, failed, raising, Config, config}
 use Rattle.pi_engine_arenas.specs.declared.run.Run.{Run}
 
 -- ---- programs in tables
@@ -309,9 +310,11 @@ pub record GoingIs {M : Type 0} (w : World M) (p : Point) (gs : GoalTrees) (e : 
   pub frames : k ≡ valued value rest
   pub agrees : Agrees w w.arenas.level (now_here w)
 
--- what runs
+-- What runs. A point whose goals are next also stands for a state that is settled first, where nothing is left to settle.
 pub data NowIs {M : Type 0} (w : World M) : Now → NowData → Type 0 where
   going_now : {p : Point} {gs : GoalTrees} {e : Places} {k : List Frame} → GoingIs w p gs e k → NowIs w (Now.Going p) (going gs e w.store.now.state k)
+  settling_now : {p : Point} {before : State} {gs : GoalTrees} {e : Places} {k : List Frame} → GoingIs w p gs e k → settlement before w.store.now.state ≡ record { load = 0; left = Some w.store.now.state } →
+      NowIs w (Now.Going p) (settling before w.store.now.state gs e k)
   telling_now : {told : Box Telling Global} {gs : GoalTrees} {e : Places} {k : List Frame} → GoingIs w told.value.point gs e k → NowIs w (Now.Telling told) (telling told.value.text gs e w.store.now.state k)
   failing_now : NowIs w Now.Failing failed
   raising_now : {ball : Tree} → NowIs w (Now.Raising ball) (raising ball)
@@ -339,6 +342,7 @@ abbrev pub StackBelow : {M : Type 0} → World M → NowData → List EntryData 
 StackBelow w failed es = StackLies w es
 StackBelow w (raising ball) es = StackLies w es
 StackBelow w (going gs e s k) es = StackStands w es
+StackBelow w (settling before s gs e k) es = StackStands w es
 StackBelow w (telling text gs e s k) es = StackStands w es
 
 -- a run stands for a configuration
