@@ -1,10 +1,9 @@
 -- Which calls a node is, and what the built-in ones come to.
 use Rattle.std.proofs.Common.{◌≡◌, ℕ, List, [], ◌∷◌, Option, Some, None, refl, ap}
 use Rattle.std.specs.Prelude.{codes}
-use Rattle.pi_terms.specs.Tree.{Tree, Trees, no_trees, tree, tree_count, var, int, atom, comp}
-use Rattle.pi_terms.specs.Places.{Places, held}
+use Rattle.pi_terms.specs.Tree.{Tree, tree_count}
+use Rattle.pi_terms.specs.Places.{Places}
 use Rattle.pi_constraints.specs.State.{State, bindings}
-use Rattle.pi_engine_stands.specs.Rests.{Rests}
 use Rattle.pi_meaning.specs.Shared.View.{View}
 use Rattle.pi_constraints.specs.Unify.{unified}
 use Rattle.pi_effects.specs.Effect.{succeeds_in}
@@ -14,14 +13,14 @@ use Rattle.pi_effects.specs.Comparing.{comparing_tests}
 use Rattle.pi_effects.specs.Kinds.{kind_tests}
 use Rattle.pi_effects.specs.Texts.{writing_predicates}
 use Rattle.pi_effects.specs.BuiltIns.{tests, other_predicates, built_in_predicate}
-use Rattle.pi_constraints.specs.Evaluation.{Evaluated, slot_term, evaluated, evaluated_all}
+use Rattle.pi_constraints.specs.Evaluation.{Evaluated, evaluated}
 use Rattle.pi_core.specs.CoreTree.{PredTree}
 use Rattle.pi_core.specs.GoalTree.{GoalTree, truth, fail, tick, call, apply, seq, alternatives, if_else, not, once, collect, count, catch, GoalTrees}
 use Rattle.pi_core.specs.GoalCells.{kind_of}
 use Rattle.pi_core.specs.declared.goal_node.GoalKind.{GoalKind}
 use Rattle.pi_constraints.specs.Value.{value}
 use Rattle.pi_engine_stands.specs.Makes.{raised_for}
-use Rattle.pi_meaning.specs.Machine.Configuration.{Frame, Entry, Now, going, failed, raising, config, settling}
+use Rattle.pi_meaning.specs.Machine.Configuration.{Frame, Entry, Now, failed, raising, config, settling}
 use Rattle.pi_meaning.specs.Machine.Step.{silently, done_now, goal_step, with_rest}
 
 pub apply-of : (g : GoalTree) (name : List ℕ) (ts : List Tree) (into : ℕ) → GoalKind.Apply name ts into ≡ kind_of g → g ≡ apply name ts into

@@ -27,7 +27,7 @@ use Rattle.pi_engine_arenas.specs.Arenas.{ArenasView, DropsNewest, between}
 use Rattle.pi_meaning.specs.Machine.Configuration.{Frame, Entry as EntryData, config, raising, settling}
 use Rattle.pi_meaning.specs.Machine.Step.{raise_step, handler_step}
 use Rattle.pi_engine_stands.specs.Here.{Block, SayLast, Holds}
-use Rattle.pi_engine_stands.specs.Stands.{World, tables_in, steps_of, now_here, block_at, Agrees, GoalStands, KindIs, rules_kind, facts_kind, branches_kind, once_kind, not_kind, if_kind, guard_kind, apply_kind, collect_kind, count_kind, catch_kind, exit_kind, StackStands, Stands, NowIs, going_now, raising_now, GoingIs}
+use Rattle.pi_engine_stands.specs.Stands.{World, tables_in, steps_of, now_here, block_at, Agrees, GoalStands, KindIs, rules_kind, facts_kind, branches_kind, once_kind, not_kind, if_kind, guard_kind, apply_kind, collect_kind, count_kind, catch_kind, exit_kind, StackStands, Stands, NowIs, raising_now, GoingIs}
 use Rattle.pi_engine_stands.specs.Evaluates.{Writes, Evaluates}
 use Rattle.pi_engine_stands.specs.Fails.{ComesTo, IsBack}
 use Rattle.pi_engine_stands.specs.Raises.{TellsCaught}

@@ -26,7 +26,7 @@ use Rattle.pi_engine_arenas.specs.Arenas.{ArenasView, between}
 use Rattle.pi_meaning.specs.Machine.Configuration.{Frame, config, raising, Entry as EntryData}
 use Rattle.pi_meaning.specs.Machine.Step.{goal_step, with_rest}
 use Rattle.pi_engine_stands.specs.Here.{Block, Holds, IsStepOf, NodeIsReadable, AreHere}
-use Rattle.pi_engine_stands.specs.Stands.{tables_in, World, steps_of, StackStands, Stands, StandsGoing, GoingIs, NowIs, going_now, failing_now, raising_now, StackLies}
+use Rattle.pi_engine_stands.specs.Stands.{tables_in, World, steps_of, StackStands, Stands, StandsGoing, GoingIs, NowIs, failing_now, raising_now, StackLies}
 use Rattle.pi_engine_stands.specs.Makes.{StandsAfter, raised_for}
 use Rattle.pi_engine_stands.specs.Evaluates.{Writes, Evaluates}
 use Rattle.pi_engine_stands.proofs.HereLemmas.{holds-extends}

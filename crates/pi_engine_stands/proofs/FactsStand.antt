@@ -14,12 +14,12 @@ use Rattle.pi_engine_arenas.specs.declared.frames.Point.{Point}
 use Rattle.pi_engine_arenas.specs.declared.run.Now.{Now}
 use Rattle.pi_engine_arenas.specs.Arenas.{ArenasView, DropsNewest, between}
 use Rattle.pi_engine_code.specs.declared.code.Predicate.{Predicate}
-use Rattle.pi_meaning.specs.Machine.Configuration.{Frame, Called, Config, config, going, failed, choice, facts_left, Back, Entry as EntryData, settling}
+use Rattle.pi_meaning.specs.Machine.Configuration.{Frame, Called, Config, config, failed, choice, facts_left, Back, Entry as EntryData, settling}
 use Rattle.pi_meaning.specs.Machine.Step.{with_fact, from_unifying, later_facts, fact_tried, try_facts, back_to}
 use Rattle.pi_meaning.specs.Machine.Shape.{open_level}
 use Rattle.pi_engine_facts.specs.Trying.{IsFirst, IsNext, numbered}
 use Rattle.pi_engine_stands.specs.Here.{Block, Here, none_here, AreHeld}
-use Rattle.pi_engine_stands.specs.Stands.{World, tables_in, steps_of, now_here, CallStands, facts_kind, StackIs, StackStands, GoingIs, going_now, Stands}
+use Rattle.pi_engine_stands.specs.Stands.{World, tables_in, steps_of, now_here, CallStands, facts_kind, StackIs, StackStands, GoingIs, Stands}
 use Rattle.pi_engine_stands.specs.Evaluates.{Writes}
 use Rattle.pi_engine_stands.specs.Tries.{CallIs, LeavesLater}
 use Rattle.pi_engine_stands.proofs.HereLemmas.{Moves, goes_on-moves}

@@ -29,7 +29,7 @@ use Rattle.pi_meaning.specs.Machine.Built.{AreOfRules}
 use Rattle.pi_meaning.specs.Machine.Leads.{Leads, IsAtEnd}
 use Rattle.pi_engine_stands.specs.Here.{Block, Here, AreHere, none_here, value_here, last_here, more_here, GoesOn, answers, gives, returns_to_end, more_of_block, returns_to}
 use Rattle.pi_engine_stands.specs.Stands.{tables_in, World, steps_of, NowIs, going_now, StackBelow, Stands, StandsGoing, GoingIs, settling_now}
-use Rattle.pi_engine_stands.specs.Makes.{SilentlyTo, already, one_more, GoesFrom, AnswersOpen}
+use Rattle.pi_engine_stands.specs.Makes.{SilentlyTo, already, GoesFrom, AnswersOpen}
 use Rattle.pi_engine_stands.specs.Answers.{AreNames, IsTold, AnswersQuery}
 use Rattle.pi_meaning.specs.Machine.Next.{Tells}
 use Rattle.pi_engine_stands.specs.Goes.{IsOther, Goes, IsSpent, TicksOn, AtGoal, IsSilent, PointIsDone}
@@ -37,7 +37,7 @@ use Rattle.pi_engine_code.proofs.CodeLemmas.{stands-within}
 use Rattle.pi_engine_stands.proofs.PointLemmas.{first-of}
 use Rattle.pi_engine_stands.proofs.FramesStand.{going-of}
 use Rattle.pi_engine_stands.proofs.GoalsGo.{is-at, unspent, silent-ticks}
-use Rattle.pi_meaning.proofs.Machine.LeadLemmas.{leads-none, leads-on, leads-silent, step-silent, step-answers, step-ends, good-silent, good-answer}
+use Rattle.pi_meaning.proofs.Machine.LeadLemmas.{leads-on, leads-silent, step-silent, step-answers, step-ends, good-silent, good-answer}
 use Rattle.pi_engine_stands.specs.Changes.{change}
 use Rattle.pi_engine_stands.proofs.SettlesFirst.{settles-first, silently-then, silently-leads}
 
@@ -60,7 +60,6 @@ done-in : {M : Type 0} (w : World M) (p : Point) (x : NowData) (es : List EntryD
 done-in w p x es none entries (going_now {gs = no_goals} {e = e} {k = k} is) = record { e = e; k = k; steps = λ v names. already; stands = record { entries = entries; runs = going_now is } }
 done-in w p x es none entries (going_now {gs = goal g gs} {e = e} {k = k} is) =
     absurd (omega (arith, none, (first-of (tables_in w.loaded) (steps_of w.loaded) is.block p.place p.count g gs is.value is.last is.goals).some))
-
 done-in w p x es none entries (settling_now {before = before} {gs = no_goals} {e = e} {k = k} is settled) =
     record { e = e; k = k; steps = λ v names. settles-first v w.loaded.preds names before w.store.now.state no_goals e k es settled; stands = record { entries = entries; runs = going_now is } }
 done-in w p x es none entries (settling_now {gs = goal g gs} {e = e} {k = k} is settled) =

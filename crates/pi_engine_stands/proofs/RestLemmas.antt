@@ -1,5 +1,5 @@
 -- What keeps a state one from which goals begin: new variables, evaluation, unification, and a fact that unifies.
-use Rattle.std.proofs.Common.{◌≡◌, ℕ, Bool, true, zero, suc, [], Option, Some, None, replicate, refl, sym, ◌∙◌, ap, subst}
+use Rattle.std.proofs.Common.{◌≡◌, ℕ, Bool, true, zero, suc, [], Option, Some, None, replicate, refl, sym, ◌∙◌, ap}
 use Rattle.std.specs.Prelude.{option_map, option_and_then, ⊤}
 use Rattle.pi_terms.specs.Tree.{Tree, var, int, atom, comp, Trees, no_trees, tree}
 use Rattle.pi_terms.specs.Places.{Places, held}

@@ -23,7 +23,7 @@ use Rattle.pi_engine_arenas.specs.declared.run.Now.{Now}
 use Rattle.pi_engine_stands.specs.Rests.{Rests}
 use Rattle.pi_engine_stands.specs.Stands.{World, GoingIs, NowIs, settling_now}
 use Rattle.pi_engine_stands.specs.Makes.{SilentlyTo, already, one_more}
-use Rattle.pi_engine_stands.specs.Goes.{counted, Goes, TicksOn}
+use Rattle.pi_engine_stands.specs.Goes.{counted, TicksOn}
 
 -- ---- nothing is left to settle
 

@@ -1,14 +1,7 @@
 -- The stack below what runs, and what writes to the store leave of it.
-use Rattle.std.proofs.Common.{◌≡◌, ◌∙◌, List, length, refl, sym, subst, arith}
-use Rattle.pi_terms.specs.Places.{Places}
-use Rattle.pi_constraints.specs.State.{State}
-use Rattle.pi_constraints.specs.Store.{StoreView, Stays}
-use Rattle.pi_engine_arenas.specs.declared.frames.Point.{Point}
-use Rattle.pi_engine_arenas.specs.declared.run.Now.{Now}
-use Rattle.pi_engine_arenas.specs.Arenas.{ArenasView, between}
+use Rattle.std.proofs.Common.{List}
 use Rattle.pi_meaning.specs.Machine.Configuration.{Entry as EntryData, Now as NowData, going, settling, telling, failed, raising}
-use Rattle.pi_engine_stands.specs.Here.{Block}
-use Rattle.pi_engine_stands.specs.Stands.{World, StackLies, StackStands, StackBelow, NowIs, going_now}
+use Rattle.pi_engine_stands.specs.Stands.{World, StackLies, StackStands, StackBelow}
 use Rattle.pi_engine_stands.specs.Rests.{Rests}
 
 pub stack-lies : {M : Type 0} (w : World M) (es : List EntryData) → StackStands w es → StackLies w es

@@ -5,8 +5,7 @@ use Rattle.std.proofs.lemmas.Bool.{lt-ltb}
 use Rattle.std.proofs.lemmas.List.{append_assoc, append-nil, drop_all}
 use Rattle.pi_terms.specs.Tree.{Tree, var, atom, cells, most_cells}
 use Rattle.pi_terms.specs.Places.{Places, held}
-use Rattle.pi_constraints.specs.State.{State, bindings, next}
-use Rattle.pi_engine_stands.specs.Rests.{Rests}
+use Rattle.pi_constraints.specs.State.{State, IsState, bindings, next}
 use Rattle.pi_constraints.specs.Value.{IsAcyclic, value}
 use Rattle.pi_constraints.specs.Store.{StoreView, IsTerm}
 use Rattle.pi_meaning.specs.Shared.View.{View}
@@ -43,7 +42,7 @@ use Rattle.pi_engine_stands.proofs.EqualStands.{lies-moved}
 use Rattle.pi_engine_stands.proofs.AnswerStand.{Arrives, arrives}
 use Rattle.pi_engine_stands.specs.Changes.{change}
 use Rattle.pi_engine_arenas.specs.declared.run.Now.{Now}
-use Rattle.pi_engine_stands.proofs.RestLemmas.{evaluated-rests}
+use Rattle.pi_constraints.proofs.KeepsLemmas.{new-keeps}
 use Rattle.pi_engine_stands.proofs.StacksLie.{stack-lies}
 
 -- ---- slots that are read one after the other
@@ -132,22 +131,31 @@ names-at n [] i x are at = absurd cc
 names-at n (y ∷ names) zero x are at = subst (λ (z : NameSlot). z.slot < n) (same-some at) are.0
 names-at n (y ∷ names) (suc i) x are at = names-at n names i x are.1 at
 
+-- a state stays one where a name's slot gets a variable
+slot-state : (o : Option Tree) (k : ℕ) (e : Places) (s : State) → IsState s → IsState (slot_term o k e s).state
+slot-state (Some t) k e s is = is
+slot-state None k e s is = new-keeps s is
+
+named-state : (k : ℕ) (e : Places) (s : State) → IsState s → IsState (evaluated (var k) e s).state
+unfolding evaluated
+named-state k e s is = slot-state (held e k) k e s is
+
 -- the first names are told; the others are left, in what is there then
 pub record TellsFirst {M : Type 0} (b : Block) (v w : StoreView M) (a c : ArenasView M) (names : List NameSlot) (e : Places) (i : ℕ) (values : List NamedTerm) : Type 0 where
   pub slots : Places
   pub writes : Writes b (between v w a c) slots w.now.state
-  pub state : Rests w.now.state
+  pub state : IsState w.now.state
   pub later : IsLater v.now.state w.now.state e slots
   pub all : values ++ named_values (drop i names) slots w.now.state ≡ named_values names e v.now.state
   pub fit : fits names (record { slots = e; state = v.now.state }) ≡ fits (drop i names) (record { slots = e; state = v.now.state })
 
-pub tells-none : {M : Type 0} (b : Block) (v : StoreView M) (a : ArenasView M) (names : List NameSlot) (e : Places) (values : List NamedTerm) → values ≡ [] → Holds v.now.terms a.blocks.slots b e → Rests v.now.state → TellsFirst b v v a a names e 0 values
+pub tells-none : {M : Type 0} (b : Block) (v : StoreView M) (a : ArenasView M) (names : List NameSlot) (e : Places) (values : List NamedTerm) → values ≡ [] → Holds v.now.terms a.blocks.slots b e → IsState v.now.state → TellsFirst b v v a a names e 0 values
 tells-none b v a names e values none holds state =
     record {
       slots = e;
       writes = writes-none b v a e holds;
       state = state;
-      later = later-none v.now.state e state.state.acyclic;
+      later = later-none v.now.state e state.acyclic;
       all = ap (λ xs. xs ++ named_values names e v.now.state) none;
       fit = refl;
     }
@@ -161,18 +169,18 @@ unfolding fits
 fits-not n names x many = ap (λ q. cond q false (fits names x)) (lt-ltb most_cells (cells (slot_value n.slot x.slots x.state)) many)
 
 -- one name more
-pub tells-more : {M : Type 0} (b : Block) (v w u : StoreView M) (a c d : ArenasView M) (names : List NameSlot) (e : Places) (i : ℕ) (values new : List NamedTerm) (n : NameSlot) (x : NamedTerm) → slice_get names i ≡ Some n → Rests v.now.state →
+pub tells-more : {M : Type 0} (b : Block) (v w u : StoreView M) (a c d : ArenasView M) (names : List NameSlot) (e : Places) (i : ℕ) (values new : List NamedTerm) (n : NameSlot) (x : NamedTerm) → slice_get names i ≡ Some n → IsState v.now.state →
     (before : TellsFirst b v w a c names e i values) → NamesValue b (between w u c d) n (evaluated (var n.slot) before.slots w.now.state) (Some x) → new ≡ values ++ x ∷ [] → TellsFirst b v u a d names e (i + 1) new
 tells-more b v w u a c d names e i values new n x at state before one pushed =
     let y : Evaluated = evaluated (var n.slot) before.slots w.now.state in
     let left : drop i names ≡ n ∷ drop (i + 1) names = drop-first names i n at in
     let now : u.now.state ≡ y.state = one.0.state in
     let there : Writes b (between w u c d) y.slots u.now.state = subst (λ q. Writes b (between w u c d) y.slots q) (sym now) one.0 in
-    let few : cells (slot_value n.slot e v.now.state) ≤ most_cells = subst (λ k. k ≤ most_cells) (as-many v.now.state w.now.state n.slot e before.slots state.state.acyclic before.later) one.1.1 in
+    let few : cells (slot_value n.slot e v.now.state) ≤ most_cells = subst (λ k. k ≤ most_cells) (as-many v.now.state w.now.state n.slot e before.slots state.acyclic before.later) one.1.1 in
     record {
       slots = y.slots;
       writes = writes-then b v w u a c d before.slots y.slots w.now.state u.now.state before.writes there;
-      state = subst Rests (sym now) (evaluated-rests (var n.slot) before.slots w.now.state before.state);
+      state = subst IsState (sym now) (named-state n.slot before.slots w.now.state before.state);
       later = subst (λ q. IsLater v.now.state q e y.slots) (sym now) (later-read v.now.state w.now.state e before.slots n.slot before.later);
       all = ap (λ xs. xs ++ named_values (drop (i + 1) names) y.slots u.now.state) pushed
           ∙ ap (λ q. (values ++ x ∷ []) ++ named_values (drop (i + 1) names) y.slots q) now
@@ -208,7 +216,7 @@ query-arrives w p view names e k es stands none last level =
 -- what holds of the loop: for each block and slots that are there
 abbrev pub TellsSo : {M : Type 0} → StoreView M → StoreView M → ArenasView M → ArenasView M → List NameSlot → ℕ → List NamedTerm → Type 0
 TellsSo v w a c names i values =
-    (n : ℕ) (e : Places) → AreNames n names → Holds v.now.terms a.blocks.slots (query_block n) e → Rests v.now.state → TellsFirst (query_block n) v w a c names e i values
+    (n : ℕ) (e : Places) → AreNames n names → Holds v.now.terms a.blocks.slots (query_block n) e → IsState v.now.state → TellsFirst (query_block n) v w a c names e i values
 
 pub query-told : {M : Type 0} (w : World M) (u : StoreView M) (c : ArenasView M) (names : List NameSlot) (i : ℕ) (answer : Answer) (p : Point) (view : View) (e : Places) (k : List Frame) (es : List EntryData) → TellsSo w.store u w.arenas c names i answer.values →
     (IsAcyclic (bindings u.now.state) → AreUnbound u.now.state (occurring answer.values) → answer.domains ≡ told_domains u.now.state (answer_variables answer.values)) →
@@ -219,7 +227,7 @@ query-told w u c names i answer p view e k es tells domains all stands none last
     let there : Arrives w view names (query_block w.loaded.query_slots) e k es = query-arrives w p view names e k es stands none last level in
     let f : Places = there.slots in
     let x : Solution = record { slots = f; state = w.store.now.state } in
-    let done : TellsFirst (query_block w.loaded.query_slots) w.store u w.arenas c names f i answer.values = tells w.loaded.query_slots f are there.holds stands.entries.state in
+    let done : TellsFirst (query_block w.loaded.query_slots) w.store u w.arenas c names f i answer.values = tells w.loaded.query_slots f are there.holds stands.entries.state.state in
     let nothing : drop i names ≡ [] = drop_all i names all in
     let values : answer.values ≡ named_values names f w.store.now.state =
     sym (append-nil answer.values) ∙ ap (λ ns. answer.values ++ named_values ns done.slots u.now.state) (sym nothing) ∙ done.all in
@@ -235,7 +243,7 @@ query-told w u c names i answer p view e k es tells domains all stands none last
 
 pub query-raises : {M : Type 0} (w after : World M) (u z : StoreView M) (c d : ArenasView M) (names : List NameSlot) (i : ℕ) (values : List NamedTerm) (n : NameSlot) (ball : Tree) (p : Point) (view : View) (e : Places) (k : List Frame) (es : List EntryData) →
     TellsSo w.store u w.arenas c names i values → slice_get names i ≡ Some n →
-    ((b : Block) (f : Places) → b.base ≡ 0 → b.first ≡ 0 → n.slot < b.count → Holds u.now.terms c.blocks.slots b f → Rests u.now.state → NamesValue b (between u z c d) n (evaluated (var n.slot) f u.now.state) None) →
+    ((b : Block) (f : Places) → b.base ≡ 0 → b.first ≡ 0 → n.slot < b.count → Holds u.now.terms c.blocks.slots b f → IsState u.now.state → NamesValue b (between u z c d) n (evaluated (var n.slot) f u.now.state) None) →
     ball ≡ atom (codes "term_too_large") → StandsGoing w p no_goals e k es → p.count ≡ 0 → p.frame ≡ 0 → w.arenas.level ≡ 0 → AreNames w.loaded.query_slots names →
     (x : Solution) × SilentlyTo view w.loaded.preds names (config (going no_goals e w.store.now.state k) es) (config (going no_goals x.slots x.state []) es) × IsTold view (change w after Now.Failing) names x es (Err ball)
 query-raises w after u z c d names i values n ball p view e k es tells at one raised stands none last level are =
@@ -244,7 +252,7 @@ query-raises w after u z c d names i values n ball p view e k es tells at one ra
     let f : Places = there.slots in
     let s : State = w.store.now.state in
     let x : Solution = record { slots = f; state = s } in
-    let done : TellsFirst b w.store u w.arenas c names f i values = tells w.loaded.query_slots f are there.holds stands.entries.state in
+    let done : TellsFirst b w.store u w.arenas c names f i values = tells w.loaded.query_slots f are there.holds stands.entries.state.state in
     let large : NamesValue b (between u z c d) n (evaluated (var n.slot) done.slots u.now.state) None = one b done.slots refl refl (names-at w.loaded.query_slots names i n are at) done.writes.holds done.state in
     let many : most_cells < cells (slot_value n.slot f s) = subst (λ m. most_cells < m) (as-many s u.now.state n.slot f done.slots stands.entries.state.state.acyclic done.later) large.1 in
     let open_none : newest_open zero es ≡ none_open = no-open es (newest_open zero es) refl (newest-number zero es ∙ sym stands.entries.level ∙ level) in
@@ -256,7 +264,7 @@ query-raises w after u z c d names i values n ball p view e k es tells at one ra
 
 -- ---- one name
 
-pub name-read : {M : Type 0} (b : Block) (v w : StoreView M) (a c : ArenasView M) (n : NameSlot) (e : Places) (slot : ℕ) (r : Ref) (read : Option Tree) (found : Option NamedTerm) → b.base ≡ 0 → b.first ≡ 0 → n.slot < b.count → Holds v.now.terms a.blocks.slots b e → Rests v.now.state →
+pub name-read : {M : Type 0} (b : Block) (v w : StoreView M) (a c : ArenasView M) (n : NameSlot) (e : Places) (slot : ℕ) (r : Ref) (read : Option Tree) (found : Option NamedTerm) → b.base ≡ 0 → b.first ≡ 0 → n.slot < b.count → Holds v.now.terms a.blocks.slots b e → IsState v.now.state →
     slot ≡ slot_number 0 n.slot →
     ((d : Block) (k : ℕ) (f : Places) → slot ≡ slot_number (slot_number d.base d.first) k → k < d.count → Holds v.now.terms a.blocks.slots d f → Evaluates d (between v w a c) (slot_term (held f k) k f v.now.state) r) →
     ((t : Tree) → IsTerm w r t → IsAcyclic (bindings w.now.state) → IsRead (value (bindings w.now.state) t) read) → ((t : Tree) → IsRead t read → IsNamed n t found) →
@@ -266,8 +274,8 @@ name-read b v w a c n e slot r read found base first within holds state at reads
     let zero_is : 0 ≡ slot_number b.base b.first = omega (arith, base, first) in
     let got : Evaluates b (between v w a c) y r =
     subst (λ q. Evaluates b (between v w a c) q r) (sym (slot-is n.slot e v.now.state)) (reads b n.slot e (at ∙ ap (λ m. slot_number m n.slot) zero_is) within holds) in
-    let sound : Rests w.now.state = subst Rests (sym got.writes.state) (evaluated-rests (var n.slot) e v.now.state state) in
-    (got.writes, subst (λ q. IsNamed n (value (bindings q) y.tree) found) got.writes.state (names (value (bindings w.now.state) y.tree) (tells y.tree got.term sound.state.acyclic)))
+    let sound : IsState w.now.state = subst IsState (sym got.writes.state) (named-state n.slot e v.now.state state) in
+    (got.writes, subst (λ q. IsNamed n (value (bindings q) y.tree) found) got.writes.state (names (value (bindings w.now.state) y.tree) (tells y.tree got.term sound.acyclic)))
 
 pub read-named : (n : NameSlot) (name : List ℕ) (read : Option Tree) (x t : Tree) → read ≡ Some x → name ≡ n.name → IsRead t read → IsNamed n t (Some (record { name = name; value = x }))
 read-named n name read x t is same h =

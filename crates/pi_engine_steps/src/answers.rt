@@ -1,7 +1,7 @@
 //! The answers of a query.
 ghost use Rattle.std.specs.Prelude.{◌≡◌, ◌<◌, Some, IfOk};
 ghost use Rattle.pi_terms.specs.Places.{Places};
-ghost use Rattle.pi_engine_stands.specs.Rests.{Rests};
+ghost use Rattle.pi_constraints.specs.State.{IsState};
 ghost use Rattle.pi_terms.specs.Tree.{var};
 ghost use Rattle.pi_constraints.specs.Evaluation.{evaluated};
 ghost use Rattle.pi_engine_stands.specs.Here.{Block};
@@ -44,7 +44,7 @@ fn named_value<S: StateStore>(
     named: &NameSlot,
 ) -> Result<Option<NamedTerm>, AllocError>
     ensures { IfOk result (λ found. (b : Block) (e : Places) → b.base ≡ 0 → b.first ≡ 0 → named.now.slot < b.count →
-        HoldsIn S.seen run.old b e → Rests (state_in S.seen run.old) →
+        HoldsIn S.seen run.old b e → IsState (state_in S.seen run.old) →
         NamesValue b (across S.seen run.old run.new) named.now
         (evaluated (var named.now.slot) e (state_in S.seen run.old)) found) }
 {
