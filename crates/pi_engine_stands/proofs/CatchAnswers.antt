@@ -39,7 +39,8 @@ use Rattle.pi_engine_stands.proofs.AnswerStand.{Arrives, arrives}
 use Rattle.pi_engine_stands.proofs.LeaveStand.{outer-agrees, above-frames, below-kept}
 use Rattle.pi_engine_stands.proofs.EndsStand.{behind-level}
 use Rattle.pi_engine_stands.proofs.OpenStand.{OpenAt, nothing_at, strict_at, catch_at, open-at}
-use Rattle.pi_engine_stands.proofs.OnceStand.{silently-then, Answered, GoalLeft, goal-left, behind_level, same-at}
+use Rattle.pi_engine_stands.proofs.OnceStand.{Answered, GoalLeft, goal-left, behind_level, same-at}
+use Rattle.pi_engine_stands.proofs.SettlesFirst.{silently-then}
 
 -- ---- the newest open level is a `catch`
 

@@ -2,7 +2,6 @@
 use Rattle.std.proofs.Common.{◌≡◌, ℕ, zero, suc, ◌-◌, ◌≤◌, ◌<◌, List, [], Option, Some, None, length, refl, sym, ◌∙◌, ap, subst, arith}
 use Rattle.std.specs.Prelude.{slice_get}
 use Rattle.std.proofs.lemmas.Option.{slice_get_within}
-use Rattle.pi_core.specs.CoreTree.{PredTree}
 use Rattle.pi_terms.specs.Tree.{Tree}
 use Rattle.pi_terms.specs.Places.{Places}
 use Rattle.pi_constraints.specs.State.{State}
@@ -33,11 +32,7 @@ use Rattle.pi_engine_stands.proofs.LeaveStand.{LeftBy, level-behind}
 use Rattle.pi_engine_stands.proofs.EndsStand.{behind-level, second-runs, child-found, if-counts}
 use Rattle.pi_engine_stands.proofs.OpenStand.{OpenAt, nothing_at, strict_at, catch_at, open-at, back-length}
 use Rattle.pi_engine_stands.proofs.StacksLie.{stack-lies}
-
--- steps one after the other
-pub silently-then : (view : View) (preds : List PredTree) (names : List NameSlot) (c d e : Config) → SilentlyTo view preds names c d → SilentlyTo view preds names d e → SilentlyTo view preds names c e
-silently-then view preds names c d e already next = next
-silently-then view preds names c d e (one_more is rest) next = one_more is (silently-then view preds names _ d e rest next)
+use Rattle.pi_engine_stands.proofs.SettlesFirst.{silently-then}
 
 -- ---- a level whose goal has an answer, and which is left
 

@@ -18,7 +18,7 @@ use Rattle.pi_engine_stands.specs.Rests.{Rests}
 
 -- ---- new variables
 
-pub new-rests : (s : State) → Rests s → Rests (with_new s)
+new-rests : (s : State) → Rests s → Rests (with_new s)
 new-rests s is = record { state = new-keeps s is.state; none_posted = is.none_posted; none_made = is.none_made }
 
 pub news-rest : (k : ℕ) (s : State) → Rests s → Rests (with_new_variables k s)
@@ -28,7 +28,7 @@ news-rest (suc k) s is = news-rest k (with_new s) (new-rests s is)
 
 -- ---- evaluation
 
-pub slot-rests : (o : Option Tree) (k : ℕ) (e : Places) (s : State) → Rests s → Rests (slot_term o k e s).state
+slot-rests : (o : Option Tree) (k : ℕ) (e : Places) (s : State) → Rests s → Rests (slot_term o k e s).state
 slot-rests (Some t) k e s is = is
 slot-rests None k e s is = new-rests s is
 
@@ -60,7 +60,7 @@ same-then s r u a b = record { constraints = b.constraints ∙ a.constraints; ag
 unified-same : (s r : State) (t u : Tree) → unified s t u ≡ Some r → SameRest s r
 unified-same s r t u e = let it : KeepsTheRest s r = unified_keeps_the_rest s r t u e in record { constraints = it.constraints; agents = it.agents }
 
-pub unified-rests : (s r : State) (t u : Tree) → unified s t u ≡ Some r → IsState r → Rests s → Rests r
+unified-rests : (s r : State) (t u : Tree) → unified s t u ≡ Some r → IsState r → Rests s → Rests r
 unified-rests s r t u e state is = rests-by s r (unified-same s r t u e) state is
 
 answered-in : (s u : State) (t x : Tree) (o : Option State) (one : Bool) → unified s t x ≡ o → Rests s → IsState u → Answers o one u → one ≡ true → Rests u

@@ -31,7 +31,7 @@ use Rattle.pi_engine_stands.specs.Goes.{counted, TicksOn}
 pub settling-rests : {M : Type 0} (w : World M) (p : Point) (before : State) (gs : GoalTrees) (e : Places) (k : List Frame) → Rests w.store.now.state → GoingIs w p gs e k → NowIs w (Now.Going p) (settling before w.store.now.state gs e k)
 settling-rests w p before gs e k rests is = settling_now is (settlement-plain before w.store.now.state rests.none_posted rests.none_made)
 
-pub settles-silently : (v : View) (preds : List PredTree) (names : List NameSlot) (before s : State) (gs : GoalTrees) (e : Places) (k : List Frame) (es : List EntryData) → settlement before s ≡ record { load = 0; left = Some s } →
+settles-silently : (v : View) (preds : List PredTree) (names : List NameSlot) (before s : State) (gs : GoalTrees) (e : Places) (k : List Frame) (es : List EntryData) → settlement before s ≡ record { load = 0; left = Some s } →
     step v preds names (config (settling before s gs e k) es) ≡ silently (config (going gs e s k) es)
 unfolding step
 settles-silently v preds names before s gs e k es is = ap (λ m. settle_step m gs e k es) is

@@ -1,4 +1,4 @@
--- The stack below what runs, and what writes to the store leave of it.
+-- The stack below what runs, and what is known of the present state with it.
 use Rattle.std.proofs.Common.{List}
 use Rattle.pi_meaning.specs.Machine.Configuration.{Entry as EntryData, Now as NowData, going, settling, telling, failed, raising}
 use Rattle.pi_engine_stands.specs.Stands.{World, StackLies, StackStands, StackBelow}
