@@ -1,6 +1,7 @@
 -- A run that begins stands for the configuration that a query begins with.
 use Rattle.std.proofs.Common.{◌≡◌, ℕ, zero, suc, false, List, [], ◌++◌, Option, None, length, take, map, replicate, refl, sym, ◌∙◌, ap, subst, arith}
-use Rattle.pi_constraints.specs.State.{IsState, empty_state, bindings}
+use Rattle.pi_constraints.specs.State.{empty_state, bindings}
+use Rattle.pi_engine_stands.specs.Rests.{Rests}
 use Rattle.pi_constraints.specs.Value.{IsAcyclic}
 use Rattle.pi_constraints.specs.Store.{Terms, Moment, StoreView, Keeps, Stays, Marks, Returns}
 use Rattle.pi_core.specs.GoalTree.{GoalTree, no_goals, goal}
@@ -53,7 +54,7 @@ run-begins l v order trail place g code empty same here =
     record {
       entries = record {
         code = code;
-        state = subst IsState (sym empty) empty-is-state;
+        state = subst Rests (sym empty) (record { state = empty-is-state; none_posted = refl; none_made = refl });
         tables = λ n x at. ap (λ t. t n) (sym same) ∙ at;
         level = refl;
         kept = refl;

@@ -26,13 +26,14 @@ use Rattle.pi_engine_stands.specs.Goes.{counted, IsAt, Goes, IsSpent, TicksOn, I
 use Rattle.pi_meaning.specs.Machine.Leads.{Leads}
 use Rattle.pi_meaning.specs.Machine.Next.{Tells, some_ticks}
 use Rattle.pi_meaning.specs.Machine.Shape.{IsGood}
-use Rattle.pi_engine_stands.specs.Stands.{World, GoingIs, NowIs, going_now, telling_now, failing_now, raising_now, Stands}
-use Rattle.pi_meaning.specs.Machine.Step.{Outcome, silently, with_tick, quietly, deeper, writing, answering, ending, fail_step, raise_step, step}
+use Rattle.pi_engine_stands.specs.Stands.{World, GoingIs, NowIs, going_now, telling_now, failing_now, raising_now, Stands, StackBelow, settling_now}
+use Rattle.pi_meaning.specs.Machine.Step.{Outcome, silently, with_tick, quietly, deeper, writing, answering, ending, fail_step, raise_step, step, loading}
 use Rattle.pi_engine.specs.Turns.{StepIs, StepStops}
 use Rattle.pi_engine_stands.proofs.GoalsGo.{is-at, none-counted, unspent, silent-goes}
 use Rattle.pi_meaning.proofs.Machine.LeadLemmas.{leads-none, leads-on, step-ends, step-writes, good-writing}
 use Rattle.pi_engine_stands.proofs.PointsDone.{GoesSilently}
 use Rattle.pi_engine_stands.specs.Changes.{change}
+use Rattle.pi_engine_stands.proofs.StacksLie.{below-lies}
 
 -- ---- no further answer, and exceptions
 
@@ -53,6 +54,7 @@ comes-to-goes v names after now c (silently d) rules good is stands = silent-goe
 comes-to-goes v names after now c (with_tick d) rules good is never = absurd never
 comes-to-goes v names after now c (quietly d) rules good is never = absurd never
 comes-to-goes v names after now c (deeper d) rules good is never = absurd never
+comes-to-goes v names after now c (loading n d) rules good is never = absurd never
 comes-to-goes v names after now c (writing text d) rules good is never = absurd never
 comes-to-goes v names after now c (answering x d) rules good is never = absurd never
 comes-to-goes v names after now c (ending e) rules good is ended = ends-so v names after now c e rules good is ended
@@ -69,6 +71,7 @@ comes-to-unspent after mode b now (silently d) stands = unspent after mode b now
 comes-to-unspent after mode b now (with_tick d) never = absurd never
 comes-to-unspent after mode b now (quietly d) never = absurd never
 comes-to-unspent after mode b now (deeper d) never = absurd never
+comes-to-unspent after mode b now (loading n d) never = absurd never
 comes-to-unspent after mode b now (writing text d) never = absurd never
 comes-to-unspent after mode b now (answering x d) never = absurd never
 comes-to-unspent after mode b now (ending e) ended = ended-unspent mode b now e ended
@@ -94,6 +97,7 @@ answer-is v names mode b after c a it =
 telling-is : {M : Type 0} (w : World M) (x : NowData) (now : Now) (told : Box Telling Global) → now ≡ Now.Telling told → NowIs w now x →
     (gs : GoalTrees) × (e : Places) × (k : List Frame) × (x ≡ telling told.value.text gs e w.store.now.state k) × GoingIs w told.value.point gs e k
 telling-is w x now told same (going_now is) = absurd cc
+telling-is w x now told same (settling_now is none) = absurd cc
 telling-is w x now told same (telling_now {told = other} {gs = gs} {e = e} {k = k} is) =
     let it : other ≡ told = cc in
     (gs, e, k, ap (λ t. telling t.value.text gs e w.store.now.state k) it, subst (λ t. GoingIs w t.value.point gs e k) it is)
@@ -116,7 +120,7 @@ told-is w v names mode b told c is =
       comes = next;
       leads = step-writes v w.loaded.preds names c next told.value.text is.rules is.good writes;
       good = good-writing v w.loaded.preds names c next told.value.text is.good writes;
-      is = record { entries = stands.entries; runs = going_now it.4 };
+      is = record { entries = subst (λ x. StackBelow w x c.stack) it.3 stands.entries; runs = going_now it.4 };
     } in
     record { is = subst (λ k. Goes v names (some_ticks k ++ noted (Out told.value.text) ∷ []) w (Now.Going told.value.point) c) (sym (none-counted mode b b refl)) goes; spent = tt }
 
@@ -128,6 +132,7 @@ stops-there v names mode b w c good =
 -- what fails
 failing-is : {M : Type 0} (w : World M) (x : NowData) (now : Now) → now ≡ Now.Failing → NowIs w now x → x ≡ failed
 failing-is w x now same (going_now is) = absurd cc
+failing-is w x now same (settling_now is none) = absurd cc
 failing-is w x now same (telling_now is) = absurd cc
 failing-is w x now same failing_now = refl
 failing-is w x now same raising_now = absurd cc
@@ -138,7 +143,7 @@ fails-step v preds names c is = ap (λ x. step v preds names (config x c.stack))
 
 pub fails-is : {M : Type 0} (w after : World M) (v : View) (names : List NameSlot) (mode : Mode) (b : Budget) (now : Now) (c : Config) → w.loaded ≡ after.loaded → IsIn v names w Now.Failing c → Fails (change w after now) → StepIs v names mode b b after now c CodeOutcome.More
 fails-is w after v names mode b now c same is fails =
-    let to : ComesTo after now (fail_step c.stack) = fails c.stack is.is.entries in
+    let to : ComesTo after now (fail_step c.stack) = fails c.stack (below-lies w c.now c.stack is.is.entries) in
     more-is v names mode b after now c
     (comes-to-goes v names after now c (fail_step c.stack) (subst (λ l. AreOfRules l.preds) same is.rules) is.good (fails-step v after.loaded.preds names c (failing-is w c.now Now.Failing refl is.is.runs)) to)
     (comes-to-unspent after mode b now (fail_step c.stack) to)
@@ -146,6 +151,7 @@ fails-is w after v names mode b now c same is fails =
 -- what raises
 raising-is : {M : Type 0} (w : World M) (x : NowData) (now : Now) (ball : Tree) → now ≡ Now.Raising ball → NowIs w now x → x ≡ raising ball
 raising-is w x now ball same (going_now is) = absurd cc
+raising-is w x now ball same (settling_now is none) = absurd cc
 raising-is w x now ball same (telling_now is) = absurd cc
 raising-is w x now ball same failing_now = absurd cc
 raising-is w x now ball same raising_now = cc
@@ -157,7 +163,7 @@ raises-step v preds names c ball is = ap (λ x. step v preds names (config x c.s
 pub raises-is : {M : Type 0} (w after : World M) (v : View) (names : List NameSlot) (mode : Mode) (b : Budget) (old now : Now) (ball : Tree) (c : Config) → w.loaded ≡ after.loaded → old ≡ Now.Raising ball → IsIn v names w old c → Raises old (change w after now) → StepIs v names mode b b after now c CodeOutcome.More
 raises-is w after v names mode b old now ball c same raised is raises =
     let stands : Stands w (Now.Raising ball) c = subst (λ n. IsAt v names w n c) raised is.is in
-    let to : ComesTo after now (raise_step ball c.stack) = raises ball c.stack raised stands.entries is.good.balanced in
+    let to : ComesTo after now (raise_step ball c.stack) = raises ball c.stack raised (below-lies w c.now c.stack stands.entries) is.good.balanced in
     more-is v names mode b after now c
     (comes-to-goes v names after now c (raise_step ball c.stack) (subst (λ l. AreOfRules l.preds) same is.rules) is.good (raises-step v after.loaded.preds names c ball (raising-is w c.now (Now.Raising ball) ball refl stands.runs)) to)
     (comes-to-unspent after mode b now (raise_step ball c.stack) to)

@@ -6,7 +6,7 @@ use Rattle.pi_terms.proofs.GetLemmas.{get_append_last}
 use Rattle.pi_terms.specs.Tree.{Tree, Trees, comp, trees_of, tree_count}
 use Rattle.pi_terms.specs.Places.{Places}
 use Rattle.pi_constraints.specs.Store.{StoreView, Marks, Extend}
-use Rattle.pi_constraints.specs.State.{IsState}
+use Rattle.pi_engine_stands.specs.Rests.{Rests}
 use Rattle.pi_meaning.specs.Shared.View.{View}
 use Rattle.pi_meaning.specs.Shared.Names.{is_given}
 use Rattle.pi_core.specs.CoreTree.{find_pred, PredTree}
@@ -42,13 +42,14 @@ use Rattle.pi_engine_stands.proofs.FramesStand.{MoreFrames, pushes-more, framed,
 use Rattle.pi_engine_stands.proofs.LevelStands.{entered_level, block-of-step, level-of-new, agrees-with-new, stack-entered}
 use Rattle.pi_engine_stands.proofs.LevelSteps.{goal-stands, kept-within}
 use Rattle.pi_engine_stands.proofs.EqualStands.{block_of, kind-of-node, stack-moved, going-moved}
-use Rattle.pi_engine_stands.proofs.CallLemmas.{apply-of, evaluated-all-state}
+use Rattle.pi_engine_stands.proofs.CallLemmas.{apply-of}
 use Rattle.pi_engine_stands.proofs.RulesTried.{IsFound}
 use Rattle.pi_engine_stands.proofs.CallsTried.{below-ends, below-moves}
 use Rattle.pi_meaning.proofs.Shared.FoundLemmas.{found-by-number}
 use Rattle.pi_meaning.proofs.Machine.CallFound.{apply-comes-to}
 use Rattle.pi_engine_stands.proofs.CallMade.{front-more, arguments-added, arguments-long, all-left, stack-below, level-below, Made}
 use Rattle.pi_engine_stands.proofs.CallRuns.{Numbered, numbered, arguments-of, args-count, all-count, stands-called}
+use Rattle.pi_engine_stands.proofs.RestLemmas.{evaluated-all-rests}
 
 -- the function of a call's number, and what the goal is
 pub record Applies {M : Type 0} (w : World M) (g : GoalTree) (q operands into : ℕ) (predicate : Predicate) : Type 0 where
@@ -175,7 +176,7 @@ apply-runs w v u mark a fs d rs p s q operands into n predicate view g gs e k es
     let args : List Tree = operand_trees T operands predicate.arity in
     let all : EvaluatedAll = evaluated_all (trees_of args) e w.store.now.state in
     let called : Called = record { function = true; args = all.trees } in
-    let state : IsState v.now.state = subst IsState (sym evaluates.writes.state) (evaluated-all-state (trees_of args) e w.store.now.state stands.entries.state) in
+    let state : Rests v.now.state = subst Rests (sym evaluates.writes.state) (evaluated-all-rests (trees_of args) e w.store.now.state stands.entries.state) in
     let w1 : World _ = moved w v a in
     let stack1 : StackStands w1 es = stack-moved w v a is.block all.slots all.state es evaluates.writes state stands.entries in
     let going1 : GoingIs w1 p (goal g gs) all.slots k = going-moved w v a p (goal g gs) e all.slots all.state k es stands.entries is evaluates.writes in

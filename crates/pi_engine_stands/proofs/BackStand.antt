@@ -3,7 +3,7 @@ use Rattle.std.proofs.Common.{◌≡◌, ℕ, zero, suc, ◌-◌, ◌≤◌, min
 use Rattle.std.specs.Prelude.{slice_get}
 use Rattle.std.proofs.lemmas.List.{length-take, take_all}
 use Rattle.pi_terms.specs.Tree.{Tree}
-use Rattle.pi_constraints.specs.State.{IsState}
+use Rattle.pi_engine_stands.specs.Rests.{Rests}
 use Rattle.pi_constraints.specs.Store.{StoreView, IsGood, Returns, Extend}
 use Rattle.pi_engine_arenas.specs.declared.arenas.Back.{Back}
 use Rattle.pi_engine_arenas.specs.declared.blocks.BlocksMark.{BlocksMark}
@@ -12,7 +12,7 @@ use Rattle.pi_engine_arenas.specs.Arenas.{ArenasView, entry_at, newest, slots_ke
 use Rattle.pi_engine_arenas.specs.declared.arenas.Entry.{Entry}
 use Rattle.pi_meaning.specs.Machine.Configuration.{Entry as EntryData}
 use Rattle.pi_meaning.specs.Machine.Shape.{open_level}
-use Rattle.pi_engine_stands.specs.Stands.{tables_in, World, IsCodeOf, entries_of, entry_ends, level_ends, now_here, back_here, Agrees, KindIs, EntryIs, StackIs, no_entries, entry_above, StackStands}
+use Rattle.pi_engine_stands.specs.Stands.{tables_in, World, IsCodeOf, entries_of, entry_ends, level_ends, now_here, back_here, Agrees, KindIs, EntryIs, StackIs, no_entries, entry_above, StackLies, StackStands}
 use Rattle.pi_engine_stands.specs.Fails.{IsBack}
 use Rattle.pi_terms.proofs.ListLemmas.{take-take}
 use Rattle.pi_terms.proofs.OptionLemmas.{none-some, taken-is}
@@ -52,7 +52,7 @@ pub record CameBack {M : Type 0} (w : World M) (back : Back) (es : List EntryDat
   pub is : es ≡ waits ∷ below
   pub back_at : IsBack w back waits below
 
-came-back-in : {M : Type 0} (w : World M) (v : StoreView M) (b : ArenasView M) (back : Back) (n top : ℕ) (es : List EntryData) → StackStands w es →
+came-back-in : {M : Type 0} (w : World M) (v : StoreView M) (b : ArenasView M) (back : Back) (n top : ℕ) (es : List EntryData) → StackLies w es →
     ReturnsToNewest w.order (between w.store v w.arenas b) back → length (entries_of w) ≡ n → top ≡ length w.arenas.collected → StackIs w n top es → CameBack (moved w v b) back es
 came-back-in w v b back n top es stands takes count all no_entries = absurd (none-some refl (sym (ap (entry_at (entries_of w)) count) ∙ takes.newest_is))
 came-back-in w v b back n top es stands takes count all (entry_above m from fs x y here is below) =
@@ -92,14 +92,17 @@ came-back-in w v b back n top es stands takes count all (entry_above m from fs x
         level = comes.level ∙ ap (λ r. r.level) back_is;
         kept = comes.kept ∙ stands.kept ∙ ap (λ r. slots_kept_by (newest r)) (sym comes.entries);
         code = code-keeps w.loaded.code (tables_in w.loaded) w.store.names v.names w.loaded.preds (λ k name has. returns.names k name has) stands.code;
-        state = subst (λ k. IsState k.state) (sym returns.now) is.state;
         tables = subst (λ k. Extend w.loaded.terms k.terms) (sym returns.now) is.tables;
       };
     }
 
-pub came-back : {M : Type 0} (w : World M) (v : StoreView M) (b : ArenasView M) (back : Back) (es : List EntryData) → StackStands w es →
+pub came-back : {M : Type 0} (w : World M) (v : StoreView M) (b : ArenasView M) (back : Back) (es : List EntryData) → StackLies w es →
     ReturnsToNewest w.order (between w.store v w.arenas b) back → CameBack (moved w v b) back es
 came-back w v b back es stands takes = came-back-in w v b back (length (entries_of w)) (length w.arenas.collected) es stands takes refl refl stands.stack
+
+-- the state is the one that the entry was made in
+pub back-rests : {M : Type 0} (w : World M) (back : Back) (y : EntryData) (es : List EntryData) → IsBack w back y es → Rests w.store.now.state
+back-rests w back y es it = subst Rests (sym it.now) it.is.state
 
 -- what the entry waits for, in what is there
 pub back-kind : {M : Type 0} (w : World M) (back : Back) (y : EntryData) (es : List EntryData) → (it : IsBack w back y es) →
@@ -122,7 +125,7 @@ nothing-in : {M : Type 0} (w : World M) (n top : ℕ) (es : List EntryData) → 
 nothing-in w n top es none count no_entries = refl
 nothing-in w n top es none count (entry_above m from fs x y here is below) = absurd (none-some (sym (ap (entry_at (entries_of w)) count) ∙ none) here)
 
-pub nothing-there : {M : Type 0} (w : World M) (es : List EntryData) → StackStands w es → newest (entries_of w) ≡ None → es ≡ []
+pub nothing-there : {M : Type 0} (w : World M) (es : List EntryData) → StackLies w es → newest (entries_of w) ≡ None → es ≡ []
 nothing-there w es stands none = nothing-in w (length (entries_of w)) (length w.arenas.collected) es none refl stands.stack
 
 -- ---- it is dropped
@@ -130,7 +133,7 @@ nothing-there w es stands none = nothing-in w (length (entries_of w)) (length w.
 -- what the entry waits for stands in what is there, and the entries below stand for the rest of the stack
 pub record Popped {M : Type 0} (w : World M) (back : Back) (collected : List Tree) (from : ℕ) (y : EntryData) (es : List EntryData) : Type 0 where
   pub code : IsCodeOf w.loaded.code (tables_in w.loaded) w.store.names w.loaded.preds
-  pub state : IsState w.store.now.state
+  pub state : Rests w.store.now.state
   pub tables : Extend w.loaded.terms w.store.now.terms
   pub level : w.arenas.level ≡ open_level zero es
   pub kept : w.arenas.blocks.kept ≡ slots_kept_by (newest (entries_of w))
@@ -166,7 +169,7 @@ popped w b back y es it drops =
     ∙ ap (here_of w.store.now.terms w.arenas.blocks.slots w.arenas.frames) ends in
     record {
       code = it.code;
-      state = it.state;
+      state = back-rests w back y es it;
       tables = it.tables;
       level = drops.level ∙ open_is ∙ it.is.level;
       kept = drops.drops.kept ∙ ap (λ r. slots_kept_by (newest r)) (sym drops.drops.entries);

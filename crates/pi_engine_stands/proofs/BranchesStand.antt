@@ -4,7 +4,7 @@ use Rattle.std.specs.Prelude.{slice_get, slice_set}
 use Rattle.std.proofs.lemmas.List.{length-append, length-set}
 use Rattle.pi_terms.specs.Tree.{Tree}
 use Rattle.pi_terms.specs.Places.{Places}
-use Rattle.pi_constraints.specs.State.{IsState}
+use Rattle.pi_engine_stands.specs.Rests.{Rests}
 use Rattle.pi_constraints.specs.Store.{StoreView, Marks}
 use Rattle.pi_meaning.specs.Shared.View.{View}
 use Rattle.pi_core.specs.GoalTree.{GoalTree, GoalTrees, no_goals, goal, alternatives, count_goals, children, child_count, nodes, nodes_all}
@@ -44,7 +44,8 @@ use Rattle.pi_engine_stands.proofs.EntriesStand.{with_entry, pushed-leaves, stac
 use Rattle.pi_engine_stands.proofs.CallsStand.{Passes, keeps-terms, ends-pass, moves-pass, agrees-pass}
 use Rattle.pi_engine_stands.proofs.CallEntries.{renamed-passes, stack-renamed, get-set}
 use Rattle.pi_engine_stands.proofs.CallKept.{newest-last}
-use Rattle.pi_engine_stands.proofs.BackStand.{back-kind, back-agrees, Popped, popped, popped-stands}
+use Rattle.pi_engine_stands.proofs.BackStand.{back-kind, back-agrees, Popped, popped, popped-stands, back-rests}
+use Rattle.pi_engine_stands.proofs.StacksLie.{stack-lies}
 
 -- ---- branches in the tables
 
@@ -162,7 +163,7 @@ renamed-stands w back y gs b es kind it none kind_is =
     (subst (λ s. KindIs w.loaded w.arenas.collected (now_here w) s back.base back.frame back.blocks.slots top top kind (choice (branches_left gs) b)) it.now kind_is)) in
     record {
       code = it.code;
-      state = it.state;
+      state = back-rests w back y es it;
       tables = it.tables;
       level = it.level ∙ ap (λ r. r.level) (sym it.back_is) ∙ it.is.level;
       kept = it.kept ∙ ap slots_kept_by first ∙ sym (ap slots_kept_by last);
@@ -250,7 +251,7 @@ others-pushed w v mark p n next count g h hs e k es stands marks in_it following
     (record {
       entries = record {
         code = code-keeps w.loaded.code (tables_in w.loaded) w.store.names v.names w.loaded.preds (λ i name has. marks.stays.keeps.names i name has) stands.code;
-        state = subst IsState (sym marks.stays.state) stands.state;
+        state = subst Rests (sym marks.stays.state) stands.state;
         tables = λ i t has. marks.stays.keeps.terms (record { number = i }) t (stands.tables i t has);
         level = stands.level;
         kept = ap slots_kept_by (sym (newest-last (entries_of w) x));
@@ -289,7 +290,7 @@ unfolding goal_step
 no-branches w p s count view g gs e k es node none at stands =
     let it : _ = node-is w p s count g gs e k es node at stands in
     subst (λ h. StandsAfter w Now.Failing (goal_step view w.loaded.preds h e w.store.now.state (with_rest gs k es))) (sym (it.1 ∙ ap alternatives (none-of it.0 (it.2 ∙ none))))
-    (record { entries = stands.entries; runs = failing_now })
+    (record { entries = stack-lies w es stands.entries; runs = failing_now })
 
 -- one
 one-in : {M : Type 0} (w : World M) (p : Point) (s : Step) (fs : List Point) (n count : ℕ) (view : View) (hs gs : GoalTrees) (e : Places) (k : List Frame) (es : List EntryData) → count_goals hs ≡ count → count ≡ 1 → Pushed w p s fs n →

@@ -3,11 +3,11 @@ use Rattle.std.proofs.Common.{◌≡◌, ℕ, ◌+◌, ◌≤◌, ◌<◌, true,
 use Rattle.std.specs.Prelude.{slice_get, slice_set, slice_index_or, pos, negsuc}
 use Rattle.pi_terms.specs.Tree.{Tree, trees_of, tree_count}
 use Rattle.pi_terms.specs.Places.{Places}
-use Rattle.pi_constraints.specs.State.{State, IsState}
+use Rattle.pi_constraints.specs.State.{State}
+use Rattle.pi_engine_stands.specs.Rests.{Rests}
 use Rattle.pi_constraints.specs.Store.{StoreView, Stays, Gives as GivesTerm}
 use Rattle.pi_constraints.specs.Evaluation.{EvaluatedAll, evaluated_all}
 use Rattle.pi_constraints.specs.declared.store.Ref.{Ref}
-use Rattle.pi_constraints.proofs.KeepsLemmas.{news-keep}
 use Rattle.pi_effects.specs.Effect.{Effect, Succeeds, Fails, Writes as WritesText, Raises, FunctionEffect, Gives, Refuses}
 use Rattle.pi_effects.specs.BuiltIns.{built_in_predicate, built_in_function, is_predicate, is_function, OnlyMakesVariables}
 use Rattle.pi_effects.proofs.BuiltInLemmas.{predicates-listed, functions-listed, functions-make}
@@ -27,7 +27,7 @@ use Rattle.pi_engine_arenas.specs.Blocks.{BlocksView, KeepsBlocks}
 use Rattle.pi_engine_arenas.specs.Arenas.{ArenasView, between}
 use Rattle.pi_engine_arenas.specs.Frames.{point_behind, slot_number}
 use Rattle.pi_meaning.specs.declared.happening.Mode.{Mode}
-use Rattle.pi_meaning.specs.Machine.Configuration.{Frame, going, telling, failed, raising, Entry as EntryData}
+use Rattle.pi_meaning.specs.Machine.Configuration.{Frame, going, telling, failed, raising, Entry as EntryData, settling}
 use Rattle.pi_meaning.specs.Machine.Step.{done_now, written_now, goal_step, with_rest}
 use Rattle.pi_meaning.proofs.Machine.CallFound.{effect-comes-to, value-comes-to}
 use Rattle.pi_engine_stands.specs.Here.{Block}
@@ -36,13 +36,16 @@ use Rattle.pi_engine_stands.specs.Evaluates.{with_blocks, Writes, EvaluatesAll}
 use Rattle.pi_engine_stands.specs.Views.{Fits}
 use Rattle.pi_engine_stands.specs.Makes.{StandsAfter}
 use Rattle.pi_engine_stands.specs.Does.{IsTold, ComesNext}
-use Rattle.pi_engine_stands.proofs.CallLemmas.{call-of, apply-of, evaluated-all-state}
+use Rattle.pi_engine_stands.proofs.CallLemmas.{call-of, apply-of}
 use Rattle.pi_engine_stands.proofs.CallRuns.{trees-count, evaluated-count}
 use Rattle.pi_engine_stands.proofs.StandsLemmas.{moved}
 use Rattle.pi_engine_stands.proofs.FramesStand.{going-of}
 use Rattle.pi_engine_stands.proofs.SlotsStand.{writes-then, slot-is}
 use Rattle.pi_engine_stands.proofs.SlotsGiven.{slot-written}
-use Rattle.pi_engine_stands.proofs.EqualStands.{block_of, kind-of-node, going-behind, writes-kept, stack-moved, going-moved}
+use Rattle.pi_engine_stands.proofs.EqualStands.{block_of, kind-of-node, going-behind, writes-kept, stack-moved, going-moved, lies-moved}
+use Rattle.pi_engine_stands.proofs.RestLemmas.{news-rest, evaluated-all-rests}
+use Rattle.pi_engine_stands.proofs.StacksLie.{stack-lies, any-below}
+use Rattle.pi_engine_stands.proofs.SettlesFirst.{settling-rests}
 
 -- ---- what is done
 
@@ -80,13 +83,13 @@ told-now w (Mode.Inner (pos rest)) view text p gs e k now fits is told =
     subst (λ b. NowIs w now (written_now b text gs e w.store.now.state k)) (sym (ap is_body fits)) (subst (λ n. NowIs w n (written_now true text gs e w.store.now.state k)) (sym told) raising_now)
 told-now w (Mode.Inner (negsuc rest)) view text p gs e k now fits is told = absurd fits
 
-next-now : {M : Type 0} (w : World M) (mode : Mode) (view : View) (d : Effect) (p : Point) (gs : GoalTrees) (e : Places) (k : List Frame) (now : Now) → Fits mode view → GoingIs w p gs e k → ComesNext mode p d w.store.now.state now → NowIs w now (done_now view d gs e k)
-next-now w mode view (Succeeds r) p gs e k now fits is next =
-    subst (λ q. NowIs w now (going gs e q k)) (sym next.0) (subst (λ n. NowIs w n (going gs e w.store.now.state k)) (sym next.1) (going_now is))
-next-now w mode view Fails p gs e k now fits is next = subst (λ n. NowIs w n failed) (sym next) failing_now
-next-now w mode view (WritesText text r) p gs e k now fits is next =
+next-now : {M : Type 0} (w : World M) (mode : Mode) (view : View) (before : State) (d : Effect) (p : Point) (gs : GoalTrees) (e : Places) (k : List Frame) (now : Now) → Fits mode view → Rests w.store.now.state → GoingIs w p gs e k → ComesNext mode p d w.store.now.state now → NowIs w now (done_now view before d gs e k)
+next-now w mode view before (Succeeds r) p gs e k now fits rests is next =
+    subst (λ q. NowIs w now (settling before q gs e k)) (sym next.0) (subst (λ n. NowIs w n (settling before w.store.now.state gs e k)) (sym next.1) (settling-rests w p before gs e k rests is))
+next-now w mode view before Fails p gs e k now fits rests is next = subst (λ n. NowIs w n failed) (sym next) failing_now
+next-now w mode view before (WritesText text r) p gs e k now fits rests is next =
     subst (λ q. NowIs w now (written_now (is_body view.within) text gs e q k)) (sym next.0) (told-now w mode view text p gs e k now fits is next.1)
-next-now w mode view (Raises ball) p gs e k now fits is next = subst (λ n. NowIs w n (raising ball)) (sym next) raising_now
+next-now w mode view before (Raises ball) p gs e k now fits rests is next = subst (λ n. NowIs w n (raising ball)) (sym next) raising_now
 
 pub effect-step : {M : Type 0} (w : World M) (v u : StoreView M) (c : ArenasView M) (p : Point) (s : Step) (built : Predicate) (name first arity : ℕ) (rs : List Ref) (d : Effect) (mode : Mode) (now : Now) (view : View) (g : GoalTree) (gs : GoalTrees) (e : Places) (k : List Frame) (es : List EntryData) →
     s.node ≡ Node.BuiltIn built name first arity → slice_get (steps_of w.loaded) p.place ≡ Some s → (stands : StandsGoing w p (goal g gs) e k es) → Fits mode view →
@@ -103,17 +106,17 @@ effect-step w v u c p s built name first arity rs d mode now view g gs e k es no
     let it : g ≡ call word args = call-of g word args (kind-of-node w p s g gs e k (Node.BuiltIn built name first arity) at is node) in
     let writes : Writes is.block (between w.store u w.arenas c) all.slots u.now.state =
     writes-then is.block w.store v u w.arenas c c all.slots all.slots all.state u.now.state evaluates.writes (writes-kept is.block v u c all.slots stays.keeps evaluates.writes.holds) in
-    let state : IsState u.now.state = subst IsState (sym (stays.state ∙ evaluates.writes.state)) (evaluated-all-state (trees_of args) e w.store.now.state stands.entries.state) in
+    let state : Rests u.now.state = subst Rests (sym (stays.state ∙ evaluates.writes.state)) (evaluated-all-rests (trees_of args) e w.store.now.state stands.entries.state) in
     let behind : GoingIs (moved w u c) (point_behind p s) gs all.slots k =
     going-behind (moved w u c) p s g gs all.slots k at (going-moved w u c p (goal g gs) e all.slots u.now.state k es stands.entries is writes) in
     subst (λ h. StandsAfter (moved w u c) now (goal_step view w.loaded.preds h e w.store.now.state (with_rest gs k es))) (sym it)
     (subst (StandsAfter (moved w u c) now) (sym (effect-comes-to view w.loaded.preds word args d gs e w.store.now.state k es does))
-    (record { entries = stack-moved w u c is.block all.slots u.now.state es writes state stands.entries; runs = next-now (moved w u c) mode view d (point_behind p s) gs all.slots k now fits behind next }))
+    (record { entries = any-below (moved w u c) (done_now view all.state d gs all.slots k) es (stack-moved w u c is.block all.slots u.now.state es writes state stands.entries); runs = next-now (moved w u c) mode view all.state d (point_behind p s) gs all.slots k now fits state behind next }))
 
 -- ---- a function
 
-made-state : (s r : State) (t : Tree) → IsState s → OnlyMakesVariables s (Gives t r) → IsState r
-made-state s r t is made = subst IsState (sym made.1) (news-keep made.0 s is)
+made-state : (s r : State) (t : Tree) → Rests s → OnlyMakesVariables s (Gives t r) → Rests r
+made-state s r t is made = subst Rests (sym made.1) (news-rest made.0 s is)
 
 pub value-step : {M : Type 0} (w : World M) (v u : StoreView M) (c : ArenasView M) (new : BlocksView) (p q : Point) (s : Step) (built : Function) (name first arity into begins slot : ℕ) (rs : List Ref) (made : Ref) (t : Tree) (r : State) (view : View) (g : GoalTree) (gs : GoalTrees) (e : Places) (k : List Frame) (es : List EntryData) →
     s.node ≡ Node.BuiltInValue built name first arity into → slice_get (steps_of w.loaded) p.place ≡ Some s → (stands : StandsGoing w p (goal g gs) e k es) →
@@ -137,13 +140,13 @@ value-step w v u c new p q s built name first arity into begins slot rs made t r
     let writes : Writes is.block (between w.store u w.arenas d) f r =
     writes-then is.block w.store v u w.arenas c d all.slots f all.state r evaluates.writes
     (slot-written is.block v u c new all.slots into slot made t r there within evaluates.writes.holds gives.changes.keeps gives.changes.state gives.term slots kept stays) in
-    let state : IsState r = made-state all.state r t (evaluated-all-state (trees_of args) e w.store.now.state stands.entries.state) (functions-make word all.trees all.state (Gives t r) does) in
+    let state : Rests r = made-state all.state r t (evaluated-all-rests (trees_of args) e w.store.now.state stands.entries.state) (functions-make word all.trees all.state (Gives t r) does) in
     let behind : GoingIs (moved w u d) (point_behind p s) gs f k =
     going-behind (moved w u d) p s g gs f k at (going-moved w u d p (goal g gs) e f r k es stands.entries is writes) in
     subst (λ h. StandsAfter (moved w u d) (Now.Going q) (goal_step view w.loaded.preds h e w.store.now.state (with_rest gs k es))) (sym it)
     (subst (StandsAfter (moved w u d) (Now.Going q)) (sym (value-comes-to view w.loaded.preds word args into (Gives t r) gs e w.store.now.state k es does))
     (record {
-      entries = stack-moved w u d is.block f r es writes (subst IsState (sym gives.changes.state) state) stands.entries;
+      entries = stack-moved w u d is.block f r es writes (subst Rests (sym gives.changes.state) state) stands.entries;
       runs = subst (λ x. NowIs (moved w u d) (Now.Going x) (going gs f r k)) (sym next)
           (subst (λ x. NowIs (moved w u d) (Now.Going (point_behind p s)) (going gs f x k)) gives.changes.state (going_now behind));
     }))
@@ -163,7 +166,7 @@ refusal-step w v u c p s built name first arity into rs ball view g gs e k es no
     let it : g ≡ apply word args into = apply-of g word args into (kind-of-node w p s g gs e k (Node.BuiltInValue built name first arity into) at is node) in
     let writes : Writes is.block (between w.store u w.arenas c) all.slots u.now.state =
     writes-then is.block w.store v u w.arenas c c all.slots all.slots all.state u.now.state evaluates.writes (writes-kept is.block v u c all.slots stays.keeps evaluates.writes.holds) in
-    let state : IsState u.now.state = subst IsState (sym (stays.state ∙ evaluates.writes.state)) (evaluated-all-state (trees_of args) e w.store.now.state stands.entries.state) in
+    let state : Rests u.now.state = subst Rests (sym (stays.state ∙ evaluates.writes.state)) (evaluated-all-rests (trees_of args) e w.store.now.state stands.entries.state) in
     subst (λ h. StandsAfter (moved w u c) (Now.Raising ball) (goal_step view w.loaded.preds h e w.store.now.state (with_rest gs k es))) (sym it)
     (subst (StandsAfter (moved w u c) (Now.Raising ball)) (sym (value-comes-to view w.loaded.preds word args into (Refuses ball) gs e w.store.now.state k es does))
-    (record { entries = stack-moved w u c is.block all.slots u.now.state es writes state stands.entries; runs = raising_now }))
+    (record { entries = lies-moved w u c is.block all.slots u.now.state es writes (stack-lies w es stands.entries); runs = raising_now }))

@@ -1,9 +1,9 @@
 -- Which calls a node is, and what the built-in ones come to.
 use Rattle.std.proofs.Common.{◌≡◌, ℕ, List, [], ◌∷◌, Option, Some, None, refl, ap}
 use Rattle.std.specs.Prelude.{codes}
-use Rattle.pi_terms.specs.Tree.{Tree, Trees, no_trees, tree, tree_count, var, int, atom, comp}
-use Rattle.pi_terms.specs.Places.{Places, held}
-use Rattle.pi_constraints.specs.State.{State, IsState, bindings}
+use Rattle.pi_terms.specs.Tree.{Tree, tree_count}
+use Rattle.pi_terms.specs.Places.{Places}
+use Rattle.pi_constraints.specs.State.{State, bindings}
 use Rattle.pi_meaning.specs.Shared.View.{View}
 use Rattle.pi_constraints.specs.Unify.{unified}
 use Rattle.pi_effects.specs.Effect.{succeeds_in}
@@ -13,15 +13,14 @@ use Rattle.pi_effects.specs.Comparing.{comparing_tests}
 use Rattle.pi_effects.specs.Kinds.{kind_tests}
 use Rattle.pi_effects.specs.Texts.{writing_predicates}
 use Rattle.pi_effects.specs.BuiltIns.{tests, other_predicates, built_in_predicate}
-use Rattle.pi_constraints.specs.Evaluation.{Evaluated, slot_term, evaluated, evaluated_all}
+use Rattle.pi_constraints.specs.Evaluation.{Evaluated, evaluated}
 use Rattle.pi_core.specs.CoreTree.{PredTree}
 use Rattle.pi_core.specs.GoalTree.{GoalTree, truth, fail, tick, call, apply, seq, alternatives, if_else, not, once, collect, count, catch, GoalTrees}
 use Rattle.pi_core.specs.GoalCells.{kind_of}
 use Rattle.pi_core.specs.declared.goal_node.GoalKind.{GoalKind}
-use Rattle.pi_constraints.proofs.KeepsLemmas.{new-keeps}
 use Rattle.pi_constraints.specs.Value.{value}
 use Rattle.pi_engine_stands.specs.Makes.{raised_for}
-use Rattle.pi_meaning.specs.Machine.Configuration.{Frame, Entry, Now, going, failed, raising, config}
+use Rattle.pi_meaning.specs.Machine.Configuration.{Frame, Entry, Now, failed, raising, config, settling}
 use Rattle.pi_meaning.specs.Machine.Step.{silently, done_now, goal_step, with_rest}
 
 pub apply-of : (g : GoalTree) (name : List ℕ) (ts : List Tree) (into : ℕ) → GoalKind.Apply name ts into ≡ kind_of g → g ≡ apply name ts into
@@ -72,46 +71,26 @@ catch-of (collect g value into) b h = absurd cc
 catch-of (count g into) b h = absurd cc
 catch-of (catch g ball handler) b h = (g, handler, cc)
 
--- ---- states
-
-slot-state : (o : Option Tree) (k : ℕ) (e : Places) (s : State) → IsState s → IsState (slot_term o k e s).state
-slot-state (Some t) k e s is = is
-slot-state None k e s is = new-keeps s is
-
-mutual
-  unfolding evaluated
-
-  -- a state stays one where a term is evaluated
-  pub evaluated-state : (t : Tree) (e : Places) (s : State) → IsState s → IsState (evaluated t e s).state
-  evaluated-state (var k) e s is = slot-state (held e k) k e s is
-  evaluated-state (int n) e s is = is
-  evaluated-state (atom name) e s is = is
-  evaluated-state (comp name ts) e s is = evaluated-all-state ts e s is
-
-  pub evaluated-all-state : (ts : Trees) (e : Places) (s : State) → IsState s → IsState (evaluated_all ts e s).state
-  evaluated-all-state no_trees e s is = is
-  evaluated-all-state (tree t ts) e s is = let x : Evaluated = evaluated t e s in evaluated-all-state ts x.slots x.state (evaluated-state t e s is)
-
 -- ---- a unification
 
 -- what follows a unification
-abbrev pub after_equal : Option State → GoalTrees → Places → List Frame → Now
-after_equal None gs e k = failed
-after_equal (Some r) gs e k = going gs e r k
+abbrev pub after_equal : State → Option State → GoalTrees → Places → List Frame → Now
+after_equal before None gs e k = failed
+after_equal before (Some r) gs e k = settling before r gs e k
 
-after-one : (v : View) (o : Option State) (gs : GoalTrees) (e : Places) (k : List Frame) → done_now v (succeeds_in o) gs e k ≡ after_equal o gs e k
-after-one v None gs e k = refl
-after-one v (Some r) gs e k = refl
+after-one : (v : View) (before : State) (o : Option State) (gs : GoalTrees) (e : Places) (k : List Frame) → done_now v before (succeeds_in o) gs e k ≡ after_equal before o gs e k
+after-one v before None gs e k = refl
+after-one v before (Some r) gs e k = refl
 
 pub equal-comes-to : (v : View) (preds : List PredTree) (l r : Tree) (gs : GoalTrees) (e : Places) (s : State) (k : List Frame) (es : List Entry) →
     let x : Evaluated = evaluated l e s in
     let y : Evaluated = evaluated r x.slots x.state in
-    goal_step v preds (call (codes "=") (l ∷ r ∷ [])) e s (with_rest gs k es) ≡ silently (config (after_equal (unified y.state x.tree y.tree) gs y.slots k) es)
+    goal_step v preds (call (codes "=") (l ∷ r ∷ [])) e s (with_rest gs k es) ≡ silently (config (after_equal y.state (unified y.state x.tree y.tree) gs y.slots k) es)
 unfolding goal_step evaluated built_in_predicate tests comparing_tests kind_tests writing_predicates other_predicates done_by tree_count
 equal-comes-to v preds l r gs e s k es =
     let x : Evaluated = evaluated l e s in
     let y : Evaluated = evaluated r x.slots x.state in
-    ap (λ n. silently (config n es)) (after-one v (unified y.state x.tree y.tree) gs y.slots k)
+    ap (λ n. silently (config n es)) (after-one v y.state (unified y.state x.tree y.tree) gs y.slots k)
 
 -- ---- an exception
 

@@ -6,7 +6,8 @@ use Rattle.std.proofs.lemmas.Option.{slice_get_within, get_or_from_slice_get}
 use Rattle.pi_terms.specs.Tree.{Tree, Trees, no_trees, tree, trees_of, tree_count}
 use Rattle.pi_terms.specs.Places.{Places}
 use Rattle.pi_constraints.specs.Store.{StoreView}
-use Rattle.pi_constraints.specs.State.{State, IsState}
+use Rattle.pi_constraints.specs.State.{State}
+use Rattle.pi_engine_stands.specs.Rests.{Rests}
 use Rattle.pi_meaning.specs.Shared.View.{View}
 use Rattle.pi_meaning.specs.Shared.Names.{is_given}
 use Rattle.pi_core.specs.CoreTree.{find_pred, PredTree, pred_tree}
@@ -34,12 +35,13 @@ use Rattle.pi_engine_stands.specs.Tries.{KeepsFront}
 use Rattle.pi_engine_stands.proofs.StandsLemmas.{moved}
 use Rattle.pi_engine_stands.proofs.FramesStand.{MoreFrames, pushes-more, framed, with_new_frames, stack-framed, going-of, going-size, Entered, entered-behind}
 use Rattle.pi_engine_stands.proofs.EqualStands.{block_of, kind-of-node, stack-moved, going-moved}
-use Rattle.pi_engine_stands.proofs.CallLemmas.{call-of, evaluated-all-state}
+use Rattle.pi_engine_stands.proofs.CallLemmas.{call-of}
 use Rattle.pi_engine_stands.proofs.RulesTried.{IsFound}
 use Rattle.pi_meaning.proofs.Shared.FoundLemmas.{found-by-number}
 use Rattle.pi_meaning.proofs.Machine.CallFound.{call-comes-to}
 use Rattle.pi_engine_stands.proofs.CallMade.{Room, kept_whole, given_back, cut-back, Caller, Made, call-made}
 use Rattle.pi_engine_stands.proofs.LevelSteps.{kept-within}
+use Rattle.pi_engine_stands.proofs.RestLemmas.{evaluated-all-rests}
 
 -- ---- the predicate by its number
 
@@ -178,7 +180,7 @@ call-runs w v a fs c d rs p s q operands n predicate view g gs e k es calls at s
     let args : List Tree = operand_trees T operands predicate.arity in
     let all : EvaluatedAll = evaluated_all (trees_of args) e w.store.now.state in
     let called : Called = record { function = false; args = all.trees } in
-    let state : IsState v.now.state = subst IsState (sym evaluates.writes.state) (evaluated-all-state (trees_of args) e w.store.now.state stands.entries.state) in
+    let state : Rests v.now.state = subst Rests (sym evaluates.writes.state) (evaluated-all-rests (trees_of args) e w.store.now.state stands.entries.state) in
     let w1 : World _ = moved w v a in
     let stack1 : StackStands w1 es = stack-moved w v a is.block all.slots all.state es evaluates.writes state stands.entries in
     let going1 : GoingIs w1 p (goal g gs) all.slots k = going-moved w v a p (goal g gs) e all.slots all.state k es stands.entries is evaluates.writes in

@@ -1,6 +1,7 @@
 -- A call, where the store has more terms, in the state that it had.
 use Rattle.std.proofs.Common.{◌≡◌, ℕ, zero, suc, ◌+◌, ◌≤◌, Bool, true, List, ◌∷◌, Some, length, take, refl, sym, ◌∙◌, ap, subst, arith}
-use Rattle.pi_constraints.specs.State.{State, IsState}
+use Rattle.pi_constraints.specs.State.{State}
+use Rattle.pi_engine_stands.specs.Rests.{Rests}
 use Rattle.pi_constraints.specs.Store.{StoreView, Keeps, Stays, Extend}
 use Rattle.pi_core.specs.CoreTree.{ClauseTree}
 use Rattle.pi_engine_arenas.specs.declared.arenas.Entry.{Entry}
@@ -75,7 +76,7 @@ call-stays w v p base frame number called cs s k es again stays is =
     let passes : Passes w v w.arenas m = record { leaves = stay-leaves w v m stays.keeps; slots = refl; frames = refl; level = refl; stays = stays } in
     record {
       code = code-keeps w.loaded.code (tables_in w.loaded) w.store.names v.names w.loaded.preds (λ i name has. stays.keeps.names i name has) is.code;
-      state = subst IsState (sym stays.state) is.state;
+      state = subst Rests (sym stays.state) is.state;
       tables = λ i t has. keeps-terms w.store v stays.keeps i t (is.tables i t has);
       level = is.level;
       kept = is.kept;

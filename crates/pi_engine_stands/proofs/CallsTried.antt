@@ -183,6 +183,6 @@ pub call-ended : {M : Type 0} (w : World M) (a : ArenasView M) (p base frame num
     CallIs w p base frame number called cs s k es again → StackAfter w w.store a es es → Stands (moved w w.store a) Now.Failing (config failed es)
 call-ended w a p base frame number called cs s k es again is after =
     record {
-      entries = record { code = is.code; state = is.state; tables = is.tables; level = after.passes.level ∙ is.level; kept = after.kept; stack = after.stack };
+      entries = record { code = is.code; tables = is.tables; level = after.passes.level ∙ is.level; kept = after.kept; stack = after.stack };
       runs = failing_now;
     }

@@ -6,7 +6,8 @@ use Rattle.std.proofs.lemmas.Option.{slice_get_within}
 use Rattle.pi_core.specs.CoreTree.{PredTree}
 use Rattle.pi_terms.specs.Tree.{Tree}
 use Rattle.pi_terms.specs.Places.{Places}
-use Rattle.pi_constraints.specs.State.{State, IsState}
+use Rattle.pi_constraints.specs.State.{State}
+use Rattle.pi_engine_stands.specs.Rests.{Rests}
 use Rattle.pi_constraints.specs.Store.{StoreView, Marks, Extend}
 use Rattle.pi_meaning.specs.Shared.View.{View}
 use Rattle.pi_core.specs.GoalTree.{GoalTree, no_goals, catch}
@@ -38,7 +39,8 @@ use Rattle.pi_engine_stands.proofs.AnswerStand.{Arrives, arrives}
 use Rattle.pi_engine_stands.proofs.LeaveStand.{outer-agrees, above-frames, below-kept}
 use Rattle.pi_engine_stands.proofs.EndsStand.{behind-level}
 use Rattle.pi_engine_stands.proofs.OpenStand.{OpenAt, nothing_at, strict_at, catch_at, open-at}
-use Rattle.pi_engine_stands.proofs.OnceStand.{silently-then, Answered, GoalLeft, goal-left, behind_level, same-at}
+use Rattle.pi_engine_stands.proofs.OnceStand.{Answered, GoalLeft, goal-left, behind_level, same-at}
+use Rattle.pi_engine_stands.proofs.SettlesFirst.{silently-then}
 
 -- ---- the newest open level is a `catch`
 
@@ -230,7 +232,7 @@ exit-stack w v mark back es stands marks agrees level =
     (exit_kind refl) stands.stack in
     record {
       code = code-keeps w.loaded.code (tables_in w.loaded) w.store.names v.names w.loaded.preds (λ i name has. marks.stays.keeps.names i name has) stands.code;
-      state = subst IsState (sym marks.stays.state) stands.state;
+      state = subst Rests (sym marks.stays.state) stands.state;
       tables = λ i t has. marks.stays.keeps.terms (record { number = i }) t (stands.tables i t has);
       level = level;
       kept = ap slots_kept_by (sym (newest-last (entries_of w) x));

@@ -4,7 +4,8 @@ use Rattle.std.specs.Prelude.{slice_get}
 use Rattle.pi_terms.specs.Tree.{Tree}
 use Rattle.pi_terms.specs.Places.{Places}
 use Rattle.pi_meaning.specs.Shared.View.{View}
-use Rattle.pi_constraints.specs.State.{IsState, SpeaksBelow}
+use Rattle.pi_constraints.specs.State.{SpeaksBelow}
+use Rattle.pi_engine_stands.specs.Rests.{Rests}
 use Rattle.pi_constraints.specs.Store.{StoreView, Marks}
 use Rattle.pi_constraints.specs.Evaluation.{Evaluated, evaluated}
 use Rattle.pi_core.specs.GoalTree.{GoalTree, GoalTrees, no_goals, goal, catch, children, child_count, count_goals}
@@ -29,10 +30,11 @@ use Rattle.pi_engine_stands.proofs.FramesStand.{with_new_frames, going-of}
 use Rattle.pi_engine_stands.proofs.LevelStands.{entered_level}
 use Rattle.pi_engine_stands.proofs.LevelSteps.{Pushed, enter}
 use Rattle.pi_engine_stands.proofs.StandsLemmas.{moved}
-use Rattle.pi_engine_stands.proofs.CallLemmas.{catch-of, evaluated-state}
+use Rattle.pi_engine_stands.proofs.CallLemmas.{catch-of}
 use Rattle.pi_engine_stands.proofs.EqualStands.{block_of, kind-of-node, stack-moved, going-moved}
 use Rattle.pi_engine_stands.proofs.ValuesStand.{operand-below, slots-of}
 use Rattle.pi_engine_stands.specs.Changes.{change}
+use Rattle.pi_engine_stands.proofs.RestLemmas.{evaluated-rests}
 
 pub catch-step : {M : Type 0} (w : World M) (v : StoreView M) (mark : M) (p : Point) (s : Step) (fs : List Point) (n : ℕ) (c h : GoalTree) (ball : Tree) (gs : GoalTrees) (e : Places) (k : List Frame) (es : List EntryData) →
     Pushed w p s fs n → Marks w.order w.store v mark → StandsGoing w p (goal (catch c ball h) gs) e k es →
@@ -60,7 +62,7 @@ catch-enters w after v a p s operand q now view g gs e k es node at stands reada
     let ball : Tree = operand_tree (tables_in w.loaded) operand in
     let x : Evaluated = evaluated ball e w.store.now.state in
     let it : (c : GoalTree) × (h : GoalTree) × (g ≡ catch c ball h) = catch-of g ball (kind-of-node w p s g gs e k (Node.Catch operand) at is node) in
-    let state : IsState v.now.state = subst IsState (sym value_is.writes.state) (evaluated-state ball e w.store.now.state stands.entries.state) in
+    let state : Rests v.now.state = subst Rests (sym value_is.writes.state) (evaluated-rests ball e w.store.now.state stands.entries.state) in
     let many : length e ≡ is.block.count = slots-of w.store.now.terms w.arenas.blocks.slots is.block e is.behind.slots in
     let again : evaluated ball x.slots v.now.state ≡ record { tree = x.tree; slots = x.slots; state = v.now.state } =
     evaluated-again ball e w.store.now.state (subst (λ n. SpeaksBelow n ball) (sym many) (operand-below (tables_in w.loaded) is.block operand readable)) v.now.state in

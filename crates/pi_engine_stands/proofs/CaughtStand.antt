@@ -4,9 +4,9 @@ use Rattle.std.specs.Prelude.{slice_get, if◌then◌else◌}
 use Rattle.pi_terms.specs.Tree.{Tree}
 use Rattle.pi_terms.specs.Places.{Places}
 use Rattle.pi_terms.specs.Copy.{copy, new_variables}
-use Rattle.pi_constraints.specs.State.{State, IsState, SpeaksBelow, next, with_new}
+use Rattle.pi_constraints.specs.State.{State, SpeaksBelow, next, with_new, IsState}
+use Rattle.pi_engine_stands.specs.Rests.{Rests}
 use Rattle.pi_constraints.specs.declared.store.Ref.{Ref}
-use Rattle.pi_constraints.proofs.KeepsLemmas.{news-keep}
 use Rattle.pi_unify.proofs.KeepsLemmas.{keeps_then}
 use Rattle.pi_constraints.specs.Store.{StoreView, Keeps, Gives, IsTerm}
 use Rattle.pi_constraints.specs.Unify.{unified}
@@ -24,22 +24,26 @@ use Rattle.pi_engine_code.specs.declared.code.Step.{Step}
 use Rattle.pi_engine_arenas.specs.declared.run.Now.{Now}
 use Rattle.pi_engine_code.specs.Code.{Tables, tables_of, node_kind, operand_tree, StandsAt, child_place}
 use Rattle.pi_engine_arenas.specs.Arenas.{ArenasView, DropsNewest, between}
-use Rattle.pi_meaning.specs.Machine.Configuration.{Frame, Entry as EntryData, config, raising}
-use Rattle.pi_meaning.specs.Machine.Step.{raise_step, handler_step, run_goal}
+use Rattle.pi_meaning.specs.Machine.Configuration.{Frame, Entry as EntryData, config, raising, settling}
+use Rattle.pi_meaning.specs.Machine.Step.{raise_step, handler_step}
 use Rattle.pi_engine_stands.specs.Here.{Block, SayLast, Holds}
-use Rattle.pi_engine_stands.specs.Stands.{World, tables_in, steps_of, now_here, block_at, Agrees, GoalStands, KindIs, rules_kind, facts_kind, branches_kind, once_kind, not_kind, if_kind, guard_kind, apply_kind, collect_kind, count_kind, catch_kind, exit_kind, StackStands, Stands, NowIs, going_now, raising_now, GoingIs}
+use Rattle.pi_engine_stands.specs.Stands.{World, tables_in, steps_of, now_here, block_at, Agrees, GoalStands, KindIs, rules_kind, facts_kind, branches_kind, once_kind, not_kind, if_kind, guard_kind, apply_kind, collect_kind, count_kind, catch_kind, exit_kind, StackStands, Stands, NowIs, raising_now, GoingIs}
 use Rattle.pi_engine_stands.specs.Evaluates.{Writes, Evaluates}
 use Rattle.pi_engine_stands.specs.Fails.{ComesTo, IsBack}
 use Rattle.pi_engine_stands.specs.Raises.{TellsCaught}
 use Rattle.pi_engine_code.proofs.CodeLemmas.{child_place-first, child_place-more}
 use Rattle.pi_engine_stands.proofs.NodeLemmas.{kind-here}
 use Rattle.pi_engine_stands.proofs.SlotsStand.{writes-then}
-use Rattle.pi_engine_stands.proofs.EqualStands.{stack-moved, writes-kept}
+use Rattle.pi_engine_stands.proofs.EqualStands.{stack-moved, writes-kept, lies-moved}
 use Rattle.pi_engine_stands.proofs.StandsLemmas.{moved}
 use Rattle.pi_engine_stands.proofs.BackStand.{Popped, popped, popped-stands}
 use Rattle.pi_engine_stands.proofs.EndsStand.{child-runs, child-found}
 use Rattle.pi_engine_stands.proofs.WrittenGoals.{own-step, GoalWritten, goal-written}
 use Rattle.pi_engine_stands.specs.Changes.{change}
+use Rattle.pi_engine_stands.proofs.RestLemmas.{news-rest, answered-rests}
+use Rattle.pi_engine_stands.proofs.StacksLie.{stack-lies}
+use Rattle.pi_constraints.proofs.KeepsLemmas.{news-keep}
+use Rattle.pi_engine_stands.proofs.SettlesFirst.{settling-rests}
 
 -- ---- the handler
 
@@ -116,20 +120,20 @@ news-are (suc k) s = ap with_new (news-are k s) ∙ new-last k s
 -- ---- what follows
 
 follows : {M : Type 0} (w : World M) (u : StoreView M) (c : ArenasView M) (base place frame at_child : ℕ) (g handler : GoalTree) (wanted ball : Tree) (e : Places) (k : List Frame) (es : List EntryData) (o : Option State) (found : Bool) (now : Now) → StackStands w es →
-    GoalStands w.loaded (now_here w) base place frame (catch g wanted handler) e k → Agrees w w.arenas.level (now_here w) → Writes (block_at w.loaded place base) (between w.store u w.arenas c) e u.now.state → IsState u.now.state →
+    GoalStands w.loaded (now_here w) base place frame (catch g wanted handler) e k → Agrees w w.arenas.level (now_here w) → Writes (block_at w.loaded place base) (between w.store u w.arenas c) e u.now.state → (found ≡ true → Rests u.now.state) →
     (found ≡ true → at_child ≡ child_place (catch g wanted handler) place 1) → Answers o found u.now.state →
     now ≡ (if found then Now.Going (record { place = at_child; count = 1; base = base; frame = frame }) else Now.Raising ball) →
     Stands (moved w u c) now (config (handler_step handler (record { slots = e; state = w.store.now.state; frames = k }) ball o) es)
 follows w u c base place frame at_child g handler wanted ball e k es None found now stands own agrees writes state child_is answers follows_it =
     subst (λ r. Stands (moved w u c) r (config (raising ball) es)) (sym (follows_it ∙ ap (λ q. if q then Now.Going (record { place = at_child; count = 1; base = base; frame = frame }) else Now.Raising ball) answers))
-    (record { entries = stack-moved w u c (block_at w.loaded place base) e u.now.state es writes state stands; runs = raising_now })
+    (record { entries = lies-moved w u c (block_at w.loaded place base) e u.now.state es writes (stack-lies w es stands); runs = raising_now })
 follows w u c base place frame at_child g handler wanted ball e k es (Some r) found now stands own agrees writes state child_is answers follows_it =
     let it : GoalWritten (moved w u c) base place frame (catch g wanted handler) e k = goal-written w u c base place frame (catch g wanted handler) e e u.now.state k es stands own agrees writes in
-    subst (λ q. Stands (moved w u c) q (config (run_goal handler e r k) es)) (sym (follows_it ∙ ap (λ q. if q then Now.Going (record { place = at_child; count = 1; base = base; frame = frame }) else Now.Raising ball) answers.0))
+    subst (λ q. Stands (moved w u c) q (config (settling w.store.now.state r (goal handler no_goals) e k) es)) (sym (follows_it ∙ ap (λ q. if q then Now.Going (record { place = at_child; count = 1; base = base; frame = frame }) else Now.Raising ball) answers.0))
     (record {
-      entries = stack-moved w u c (block_at w.loaded place base) e u.now.state es writes state stands;
-      runs = subst (λ q. NowIs (moved w u c) (Now.Going (record { place = at_child; count = 1; base = base; frame = frame })) (run_goal handler e q k)) answers.1
-          (going_now (subst (λ n. GoingIs (moved w u c) (record { place = n; count = 1; base = base; frame = frame }) (goal handler no_goals) e k) (sym (child_is answers.0))
+      entries = stack-moved w u c (block_at w.loaded place base) e u.now.state es writes (state answers.0) stands;
+      runs = subst (λ q. NowIs (moved w u c) (Now.Going (record { place = at_child; count = 1; base = base; frame = frame })) (settling w.store.now.state q (goal handler no_goals) e k)) answers.1
+          (settling-rests (moved w u c) (record { place = at_child; count = 1; base = base; frame = frame }) w.store.now.state (goal handler no_goals) e k (state answers.0) (subst (λ n. GoingIs (moved w u c) (record { place = n; count = 1; base = base; frame = frame }) (goal handler no_goals) e k) (sym (child_is answers.0))
           (handler-runs (moved w u c) base place frame g handler wanted e k it.goal it.agrees)));
     })
 
@@ -156,11 +160,14 @@ caught-in w u c back collected from place at_child slots code s kind ball found 
     let step_is : s ≡ there.0 = step there.0 (ap (λ q. slice_get q.steps.items place) (sym is_code) ∙ ap (slice_get (steps_of w.loaded)) same ∙ there.1) in
     let at_step : slice_get (steps_of w.loaded) at ≡ Some s = there.1 ∙ ap Some (sym step_is) in
     let child_is : found ≡ true → at_child ≡ child_place (catch g wanted h) at 1 =
-    λ yes. child-found w.loaded (block_at w.loaded at back.base) at 1 at_child (catch g wanted h) own.last code is_code own.goal (catch-counts g h wanted 1 (omega arith))
-    (subst (λ n. (terms : ℕ → Option Tree) (q : GoalTree) → StandsAt (tables_of terms code) code.steps.items n q → 1 < child_count q → at_child ≡ child_place q n 1) same (finds yes)) in
-    let told : _ = tells at g h wanted e k at_step own stays it.state it.tables in
+    λ so. child-found w.loaded (block_at w.loaded at back.base) at 1 at_child (catch g wanted h) own.last code is_code own.goal (catch-counts g h wanted 1 (omega arith))
+    (subst (λ n. (terms : ℕ → Option Tree) (q : GoalTree) → StandsAt (tables_of terms code) code.steps.items n q → 1 < child_count q → at_child ≡ child_place q n 1) same (finds so)) in
+    let told : _ = tells at g h wanted e k at_step own stays it.state.state it.tables in
+    let ball_in : Tree = copy (next w.store.now.state) ball in
+    let rests : found ≡ true → Rests u.now.state =
+    λ so. answered-rests (with_new_variables (new_variables ball) w.store.now.state) u.now.state (evaluated wanted e w.store.now.state).tree ball_in found (news-rest (new_variables ball) w.store.now.state it.state) told.1 told.2 so in
     follows w u c back.base at back.frame at_child g h wanted ball e k es (unified (with_new_variables (new_variables ball) w.store.now.state) (evaluated wanted e w.store.now.state).tree (copy (next w.store.now.state) ball)) found now stands own it.agrees
-    told.0 told.1 child_is told.2 follows_it
+    told.0 rests child_is told.2 follows_it
 caught-in w u c back collected from place at_child slots code s kind ball found now y es it named is_code step finds tells follows_it (exit_kind one) = absurd cc
 
 pub caught : {M : Type 0} (w : World M) (b : ArenasView M) (u : StoreView M) (c : ArenasView M) (back : Back) (place at_child : ℕ) (code : Code) (s : Step) (ball : Tree) (found : Bool) (now : Now) (y : EntryData) (es : List EntryData) →

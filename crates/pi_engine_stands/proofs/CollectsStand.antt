@@ -5,7 +5,8 @@ use Rattle.std.proofs.lemmas.Bool.{lt-ltb}
 use Rattle.std.proofs.lemmas.List.{take_all, length-append, length-drop, drop-append-le, take-append-le}
 use Rattle.pi_terms.specs.Tree.{Tree, var, atom, cells, most_cells}
 use Rattle.pi_terms.specs.Places.{Places, held}
-use Rattle.pi_constraints.specs.State.{State, IsState, bindings}
+use Rattle.pi_constraints.specs.State.{State, bindings}
+use Rattle.pi_engine_stands.specs.Rests.{Rests}
 use Rattle.pi_constraints.specs.Value.{value as value_of, IsAcyclic}
 use Rattle.pi_constraints.specs.Store.{StoreView, IsTerm}
 use Rattle.pi_meaning.specs.Shared.View.{View}
@@ -38,11 +39,12 @@ use Rattle.pi_meaning.proofs.Machine.StackLemmas.{IsClosed}
 use Rattle.pi_terms.proofs.OptionLemmas.{same-some, not-less}
 use Rattle.pi_engine_stands.proofs.StandsLemmas.{moved}
 use Rattle.pi_engine_stands.proofs.EqualStands.{stack-moved}
-use Rattle.pi_engine_stands.proofs.CallLemmas.{evaluated-state}
 use Rattle.pi_engine_stands.proofs.OnceStand.{Found, found, level-answers}
 use Rattle.pi_engine_stands.proofs.WrittenGoals.{own-step, own-block, own-slots}
 use Rattle.pi_engine_stands.proofs.CountsStand.{Around, lies-around}
 use Rattle.pi_engine_stands.proofs.AltersStand.{altered-stands}
+use Rattle.pi_engine_stands.proofs.RestLemmas.{evaluated-rests}
+use Rattle.pi_engine_stands.proofs.StacksLie.{stack-lies}
 
 pub collect-node : (t : Tables) (node : Node) (g : GoalTree) (v i : ℕ) → node_kind t node ≡ kind_of (collect g v i) → node ≡ Node.Collect v i
 unfolding node_kind kind_of
@@ -170,14 +172,14 @@ collect-by w v a b now i place first value into x s d t got above below stands s
     (subst (λ r. Stands (moved w v b) r (config failed (above ++ strict (list_level value into (got ++ t ∷ [])) d ∷ below))) (sym h.2)
     (subst (λ r. Stands (moved w v r) Now.Failing (config failed (above ++ strict (list_level value into (got ++ t ∷ [])) d ∷ below))) (sym h.1)
     (record {
-      entries = collect-stands (moved w v a) i place first value into x s d t got above below (ap (λ r. slice_get r i) same ∙ at) named is closed (ap length same ∙ number) stands;
+      entries = stack-lies _ _ (collect-stands (moved w v a) i place first value into x s d t got above below (ap (λ r. slice_get r i) same ∙ at) named is closed (ap length same ∙ number) stands);
       runs = failing_now;
     })))
 collect-by w v a b now i place first value into x s d t got above below stands same at named is closed number (inr h) =
     subst (λ q. Stands (moved w v b) now (config (cond q (raising (atom (codes "term_too_large"))) failed) (above ++ strict (list_level value into (cond q got (got ++ t ∷ []))) d ∷ below))) (sym (lt-ltb most_cells (cells t) h.0))
     (subst (λ r. Stands (moved w v b) r (config (raising (atom (codes "term_too_large"))) (above ++ strict (list_level value into got) d ∷ below))) (sym h.2)
     (subst (λ r. Stands (moved w v r) (Now.Raising (atom (codes "term_too_large"))) (config (raising (atom (codes "term_too_large"))) (above ++ strict (list_level value into got) d ∷ below))) (sym h.1)
-    (record { entries = subst (λ r. StackStands (moved w v a) (above ++ strict r d ∷ below)) is stands; runs = raising_now })))
+    (record { entries = stack-lies (moved w v a) _ (subst (λ r. StackStands (moved w v a) (above ++ strict r d ∷ below)) is stands); runs = raising_now })))
 
 -- ---- an answer of the level's goal
 
@@ -210,9 +212,9 @@ collect-answers w v a b now i place first begins slot value other step code r x 
     let got_it : Evaluates d (between w.store v w.arenas a) read r =
     subst (λ y. Evaluates d (between w.store v w.arenas a) y r) (sym (slot-is-read col.value f w.store.now.state))
     (reads d col.value f (slot_is ∙ ap (λ n. slot_number n value) slots_begin ∙ ap (slot_number (slot_number d.base d.first)) same) readable.0 holds) in
-    let sound : IsState v.now.state = subst IsState (sym got_it.writes.state) (evaluated-state (var col.value) f w.store.now.state stands.entries.state) in
+    let sound : Rests v.now.state = subst Rests (sym got_it.writes.state) (evaluated-rests (var col.value) f w.store.now.state stands.entries.state) in
     let told : CollectedAs (slot_value col.value f w.store.now.state) a b now =
-    subst (λ q. CollectedAs (value_of (bindings q) read.tree) a b now) got_it.writes.state (tells read.tree got_it.term sound.acyclic) in
+    subst (λ q. CollectedAs (value_of (bindings q) read.tree) a b now) got_it.writes.state (tells read.tree got_it.term sound.state.acyclic) in
     let entries : StackStands (moved w v a) (it.above ++ strict it.level it.back ∷ it.below) =
     subst (StackStands (moved w v a)) lies.whole (stack-moved w v a d read.slots read.state es got_it.writes sound stands.entries) in
     subst (Stands (moved w v b) now) (sym (list-step col.value col.into (values_between w.arenas.collected it.from top) it.level f w.store.now.state it.above it.back it.below col.level))

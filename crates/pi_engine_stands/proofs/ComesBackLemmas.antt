@@ -10,6 +10,7 @@ use Rattle.pi_engine_stands.specs.Stands.{Loaded, World, entries_of, back_here, 
 use Rattle.pi_engine_stands.specs.ComesBack.{IsMadeIn, KeepsOneMark, EntriesKeepOneMark, ReturnsToTheMaking}
 use Rattle.pi_engine_stands.proofs.StandsLemmas.{moved, stack-length}
 use Rattle.pi_engine_stands.proofs.BackStand.{CameBack, came-back, back-kind}
+use Rattle.pi_engine_stands.proofs.StacksLie.{below-lies}
 
 made-in : (l : Loaded) (collected : List Tree) (h : Here) (s : State) (base frame slots from to : ℕ) (k : Kind) (y : EntryData) → KindIs l collected h s base frame slots from to k y → IsMadeIn y s
 made-in l collected h s base frame slots from to k y (rules_kind stands few none) = refl
@@ -47,8 +48,8 @@ each-keeps w n top all (k ∷ newer) es y (entry_above m from fs x z here it bel
 
 pub entries-keep : {M : Type 0} → EntriesKeepOneMark M
 entries-keep w now c stands = (
-  stack-length w (length (entries_of w)) (length w.arenas.collected) c.stack stands.entries.stack,
-  λ newer es y is. each-keeps w (length (entries_of w)) (length w.arenas.collected) c.stack newer es y stands.entries.stack is,
+  stack-length w (length (entries_of w)) (length w.arenas.collected) c.stack (below-lies w c.now c.stack stands.entries).stack,
+  λ newer es y is. each-keeps w (length (entries_of w)) (length w.arenas.collected) c.stack newer es y (below-lies w c.now c.stack stands.entries).stack is,
 )
 
 pub returns-to-the-making : {M : Type 0} → ReturnsToTheMaking M

@@ -24,6 +24,7 @@ use Rattle.pi_meaning.proofs.Machine.StackLemmas.{IsFound, IsClosed, newest-foun
 use Rattle.pi_engine_stands.proofs.StandsLemmas.{moved, stack-length}
 use Rattle.pi_engine_stands.proofs.OnceStand.{Found, level-answers}
 use Rattle.pi_engine_stands.proofs.AltersStand.{altered, after_altering, altered-stands}
+use Rattle.pi_engine_stands.proofs.StacksLie.{stack-lies}
 
 -- ---- where a strict level is found
 
@@ -104,7 +105,7 @@ count-answers w a i place n x p es view names e k stands none last balanced leve
     subst (λ r. Stands (moved w w.store r) Now.Failing (strict_step it.level f w.store.now.state it.above it.back it.below)) (sym arenas)
     (subst (Stands (after_altering w i x (Kind.Strict (StrictKind.Count place (suc n))) w.arenas.collected) Now.Failing) (sym (count-step waits.0 n it.level f w.store.now.state it.above it.back it.below waits.1))
     (record {
-      entries = count-stands w i place n waits.0 x it.level it.back it.above it.below at named waits.1 lies.closed lies.number (subst (StackStands w) lies.whole stands.entries);
+      entries = stack-lies _ _ (count-stands w i place n waits.0 x it.level it.back it.above it.below at named waits.1 lies.closed lies.number (subst (StackStands w) lies.whole stands.entries));
       runs = failing_now;
     })))
 

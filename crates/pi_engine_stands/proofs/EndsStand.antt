@@ -24,6 +24,7 @@ use Rattle.pi_engine_code.proofs.CodeLemmas.{stands-child, nodes-fit, child_plac
 use Rattle.pi_engine_stands.proofs.BasesStand.{shape-base}
 use Rattle.pi_engine_stands.proofs.StandsLemmas.{moved}
 use Rattle.pi_engine_stands.proofs.BackStand.{Popped, popped, popped-stands}
+use Rattle.pi_engine_stands.proofs.StacksLie.{stack-lies}
 
 -- ---- goals of a level's block
 
@@ -140,15 +141,15 @@ unfolding fail_step end_step
 passes w back collected from h t base frame slots kind y es it passed (rules_kind is fits one) = absurd passed
 passes w back collected from h t base frame slots kind y es it passed (facts_kind is fits one) = absurd passed
 passes w back collected from h t base frame slots kind y es it passed (branches_kind is at here last count one) = absurd passed
-passes w back collected from h t base frame slots kind y es it passed (once_kind own one) = record { entries = popped-stands w back collected from y es it one; runs = failing_now }
+passes w back collected from h t base frame slots kind y es it passed (once_kind own one) = record { entries = stack-lies w es (popped-stands w back collected from y es it one); runs = failing_now }
 passes w back collected from h t base frame slots kind y es it passed (not_kind own one) = absurd passed
 passes w back collected from h t base frame slots kind y es it passed (if_kind own one) = absurd passed
 passes w back collected from h t base frame slots kind y es it passed (guard_kind call fits one) = absurd passed
 passes w back collected from h t base frame slots kind y es it passed (apply_kind own free args fit one) = absurd passed
 passes w back collected from h t base frame slots kind y es it passed (collect_kind own order some) = absurd passed
 passes w back collected from h t base frame slots kind y es it passed (count_kind own one) = absurd passed
-passes w back collected from h t base frame slots kind y es it passed (catch_kind own stays one) = record { entries = popped-stands w back collected from y es it one; runs = failing_now }
-passes w back collected from h t base frame slots kind y es it passed (exit_kind one) = record { entries = popped-stands w back collected from y es it one; runs = failing_now }
+passes w back collected from h t base frame slots kind y es it passed (catch_kind own stays one) = record { entries = stack-lies w es (popped-stands w back collected from y es it one); runs = failing_now }
+passes w back collected from h t base frame slots kind y es it passed (exit_kind one) = record { entries = stack-lies w es (popped-stands w back collected from y es it one); runs = failing_now }
 
 pub passed-over : {M : Type 0} (w : World M) (b : ArenasView M) (back : Back) (y : EntryData) (es : List EntryData) → IsPassed back.kind → IsBack w back y es → DropsNewest w.arenas b →
     ComesTo (moved w w.store b) Now.Failing (fail_step (y ∷ es))

@@ -3,7 +3,7 @@ use Rattle.std.proofs.Common.{◌≡◌, ℕ, zero, suc, ◌≤◌, List, [], �
 use Rattle.std.specs.Prelude.{slice_get}
 use Rattle.std.proofs.lemmas.List.{take-append-le, length-take, drop_all, take_all}
 use Rattle.pi_constraints.specs.Store.{StoreView, Marks, Keeps, Extend}
-use Rattle.pi_constraints.specs.State.{IsState}
+use Rattle.pi_engine_stands.specs.Rests.{Rests}
 use Rattle.pi_terms.proofs.GetLemmas.{get_append_last}
 use Rattle.pi_engine_arenas.specs.declared.arenas.Kind.{Kind}
 use Rattle.pi_engine_arenas.specs.Blocks.{brought_back, slots_before}
@@ -97,7 +97,7 @@ stack-pushed w v mark slots base frame from kind y es stands marks more within s
     entry_above n from es x y (get_append_last (entries_of w) x)
     (record {
       good = marks.good;
-      state = subst (λ m. IsState m.state) (sym marks.brings_back) stands.state;
+      state = subst (λ m. Rests m.state) (sym marks.brings_back) stands.state;
       tables = subst (λ m. Extend w.loaded.terms m.terms) (sym marks.brings_back) stands.tables;
       level = stands.level;
       kept = record { within = within; protected = omega arith; noted = omega arith };

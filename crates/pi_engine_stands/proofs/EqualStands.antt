@@ -4,7 +4,8 @@ use Rattle.std.specs.Prelude.{slice_get, codes, if◌then◌else◌}
 use Rattle.pi_terms.specs.Tree.{Tree}
 use Rattle.pi_terms.specs.Places.{Places}
 use Rattle.pi_meaning.specs.Shared.View.{View}
-use Rattle.pi_constraints.specs.State.{State, IsState, bindings}
+use Rattle.pi_constraints.specs.State.{State, bindings, IsState}
+use Rattle.pi_engine_stands.specs.Rests.{Rests}
 use Rattle.pi_constraints.specs.Value.{value}
 use Rattle.pi_constraints.specs.Store.{StoreView, Keeps}
 use Rattle.pi_constraints.specs.Unify.{unified}
@@ -25,7 +26,7 @@ use Rattle.pi_engine_arenas.specs.Arenas.{ArenasView, between}
 use Rattle.pi_meaning.specs.Machine.Configuration.{Frame, config, raising, Entry as EntryData}
 use Rattle.pi_meaning.specs.Machine.Step.{goal_step, with_rest}
 use Rattle.pi_engine_stands.specs.Here.{Block, Holds, IsStepOf, NodeIsReadable, AreHere}
-use Rattle.pi_engine_stands.specs.Stands.{tables_in, World, steps_of, StackStands, Stands, StandsGoing, GoingIs, NowIs, going_now, failing_now, raising_now}
+use Rattle.pi_engine_stands.specs.Stands.{tables_in, World, steps_of, StackStands, Stands, StandsGoing, GoingIs, NowIs, failing_now, raising_now, StackLies}
 use Rattle.pi_engine_stands.specs.Makes.{StandsAfter, raised_for}
 use Rattle.pi_engine_stands.specs.Evaluates.{Writes, Evaluates}
 use Rattle.pi_engine_stands.proofs.HereLemmas.{holds-extends}
@@ -35,8 +36,11 @@ use Rattle.pi_engine_stands.proofs.NodeLemmas.{kind-here}
 use Rattle.pi_engine_stands.proofs.StandsLemmas.{moved}
 use Rattle.pi_constraints.proofs.StateLemmas.{extends}
 use Rattle.pi_engine_stands.proofs.SlotsStand.{writes-none, writes-then}
-use Rattle.pi_engine_stands.proofs.WritesStand.{WritesTo, stack-written, going-written}
+use Rattle.pi_engine_stands.proofs.WritesStand.{WritesTo, stack-written, going-written, lies-written}
 use Rattle.pi_engine_stands.proofs.CallLemmas.{call-of, after_equal, equal-comes-to, throw-comes-to}
+use Rattle.pi_engine_stands.proofs.RestLemmas.{evaluated-rests, answered-rests}
+use Rattle.pi_engine_stands.proofs.StacksLie.{stack-lies}
+use Rattle.pi_engine_stands.proofs.SettlesFirst.{settling-rests}
 
 -- ---- a goal that stands at a step
 
@@ -107,10 +111,14 @@ writes-kept b v w a e keeps holds =
 abbrev pub writes-to : {M : Type 0} (w : World M) (v : StoreView M) (c : ArenasView M) (b : Block) (f : Places) (s : State) → Writes b (between w.store v w.arenas c) f s → WritesTo w v c.blocks b f s
 writes-to w v c b f s writes = subst (λ r. Writes b (between w.store v w.arenas r) f s) writes.rest writes
 
-pub stack-moved : {M : Type 0} (w : World M) (v : StoreView M) (c : ArenasView M) (b : Block) (f : Places) (s : State) (es : List EntryData) → Writes b (between w.store v w.arenas c) f s → IsState v.now.state →
+pub stack-moved : {M : Type 0} (w : World M) (v : StoreView M) (c : ArenasView M) (b : Block) (f : Places) (s : State) (es : List EntryData) → Writes b (between w.store v w.arenas c) f s → Rests v.now.state →
     StackStands w es → StackStands (moved w v c) es
 stack-moved w v c b f s es writes state is =
     subst (λ r. StackStands (moved w v r) es) (sym writes.rest) (stack-written w v c.blocks b f s es (writes-to w v c b f s writes) state is)
+
+-- the same whatever the state is then
+pub lies-moved : {M : Type 0} (w : World M) (v : StoreView M) (c : ArenasView M) (b : Block) (f : Places) (s : State) (es : List EntryData) → Writes b (between w.store v w.arenas c) f s → StackLies w es → StackLies (moved w v c) es
+lies-moved w v c b f s es writes is = subst (λ r. StackLies (moved w v r) es) (sym writes.rest) (lies-written w v c.blocks b f s es (writes-to w v c b f s writes) is)
 
 pub going-moved : {M : Type 0} (w : World M) (v : StoreView M) (c : ArenasView M) (p : Point) (gs : GoalTrees) (e f : Places) (s : State) (k : List Frame) (es : List EntryData) → StackStands w es →
     (is : GoingIs w p gs e k) → Writes is.block (between w.store v w.arenas c) f s → GoingIs (moved w v c) p gs f k
@@ -123,18 +131,18 @@ going-moved w v c p gs e f s k es stands is writes =
 abbrev pub block_of : {M : Type 0} (w : World M) (p : Point) (g : GoalTree) (gs : GoalTrees) (e : Places) (k : List Frame) (es : List EntryData) → StandsGoing w p (goal g gs) e k es → Block
 block_of w p g gs e k es stands = (going-of w p (goal g gs) e w.store.now.state k stands.runs).block
 
-equal-by : {M : Type 0} (w : World M) (v : StoreView M) (c : ArenasView M) (p : Point) (s : Step) (g : GoalTree) (gs : GoalTrees) (e f : Places) (k : List Frame) (es : List EntryData) (o : Option State) (one : Bool) (now : Now) →
-    slice_get (steps_of w.loaded) p.place ≡ Some s → StackStands w es → (is : GoingIs w p (goal g gs) e k) → Writes is.block (between w.store v w.arenas c) f v.now.state → IsState v.now.state →
-    Answers o one v.now.state → now ≡ (if one then Now.Going (point_behind p s) else Now.Failing) → Stands (moved w v c) now (config (after_equal o gs f k) es)
-equal-by w v c p s g gs e f k es None one now at entries is writes state answers next =
-    subst (λ r. Stands (moved w v c) r (config (after_equal None gs f k) es)) (sym (next ∙ ap (λ q. if q then Now.Going (point_behind p s) else Now.Failing) answers))
-    (record { entries = stack-moved w v c is.block f v.now.state es writes state entries; runs = failing_now })
-equal-by w v c p s g gs e f k es (Some r) one now at entries is writes state answers next =
-    subst (λ q. Stands (moved w v c) q (config (after_equal (Some r) gs f k) es)) (sym (next ∙ ap (λ q. if q then Now.Going (point_behind p s) else Now.Failing) answers.0))
+equal-by : {M : Type 0} (w : World M) (v : StoreView M) (c : ArenasView M) (p : Point) (s : Step) (g : GoalTree) (gs : GoalTrees) (e f : Places) (k : List Frame) (es : List EntryData) (before : State) (o : Option State) (one : Bool) (now : Now) →
+    slice_get (steps_of w.loaded) p.place ≡ Some s → StackStands w es → (is : GoingIs w p (goal g gs) e k) → Writes is.block (between w.store v w.arenas c) f v.now.state → (one ≡ true → Rests v.now.state) →
+    Answers o one v.now.state → now ≡ (if one then Now.Going (point_behind p s) else Now.Failing) → Stands (moved w v c) now (config (after_equal before o gs f k) es)
+equal-by w v c p s g gs e f k es before None one now at entries is writes state answers next =
+    subst (λ r. Stands (moved w v c) r (config (after_equal before None gs f k) es)) (sym (next ∙ ap (λ q. if q then Now.Going (point_behind p s) else Now.Failing) answers))
+    (record { entries = lies-moved w v c is.block f v.now.state es writes (stack-lies w es entries); runs = failing_now })
+equal-by w v c p s g gs e f k es before (Some r) one now at entries is writes state answers next =
+    subst (λ q. Stands (moved w v c) q (config (after_equal before (Some r) gs f k) es)) (sym (next ∙ ap (λ q. if q then Now.Going (point_behind p s) else Now.Failing) answers.0))
     (record {
-      entries = stack-moved w v c is.block f v.now.state es writes state entries;
-      runs = subst (λ q. NowIs (moved w v c) (Now.Going (point_behind p s)) (after_equal (Some q) gs f k)) answers.1
-          (going_now (going-behind (moved w v c) p s g gs f k at (going-moved w v c p (goal g gs) e f v.now.state k es entries is writes)));
+      entries = stack-moved w v c is.block f v.now.state es writes (state answers.0) entries;
+      runs = subst (λ q. NowIs (moved w v c) (Now.Going (point_behind p s)) (after_equal before (Some q) gs f k)) answers.1
+          (settling-rests (moved w v c) (point_behind p s) before gs f k (state answers.0) (going-behind (moved w v c) p s g gs f k at (going-moved w v c p (goal g gs) e f v.now.state k es entries is writes)));
     })
 
 -- both operands evaluated, one after the other
@@ -167,7 +175,8 @@ equal-step w v u c p s left right q one now view g gs e k es node at stands both
     writes-then is.block w.store v u w.arenas c c y.slots y.slots y.state u.now.state both.writes (writes-kept is.block v u c y.slots keeps both.writes.holds) in
     subst (λ h. StandsAfter (moved w u c) now (goal_step view w.loaded.preds h e w.store.now.state (with_rest gs k es))) (sym it)
     (subst (λ h. StandsAfter (moved w u c) now h) (sym (equal-comes-to view w.loaded.preds l r gs e w.store.now.state k es))
-    (equal-by w u c p s g gs e y.slots k es (unified y.state x.tree y.tree) one now at stands.entries is all state answers next))
+    (equal-by w u c p s g gs e y.slots k es y.state (unified y.state x.tree y.tree) one now at stands.entries is all
+    (λ so. answered-rests y.state u.now.state x.tree y.tree one (evaluated-rests r x.slots x.state (evaluated-rests l e w.store.now.state stands.entries.state)) state answers so) answers next))
 
 -- what is next
 pub goes-on : (one : Bool) (now : Now) (p : Point) → one ≡ true → now ≡ Now.Going p → now ≡ (if one then Now.Going p else Now.Failing)
@@ -181,10 +190,10 @@ fails one now p is next = next ∙ ap (λ q. if q then Now.Going p else Now.Fail
 pub throw-step : {M : Type 0} (w : World M) (v : StoreView M) (c : ArenasView M) (p : Point) (s : Step) (operand : Operand) (q : Ref) (ball : Tree) (view : View) (g : GoalTree) (gs : GoalTrees) (e : Places) (k : List Frame) (es : List EntryData) →
     s.node ≡ Node.Throw operand → slice_get (steps_of w.loaded) p.place ≡ Some s → (stands : StandsGoing w p (goal g gs) e k es) →
     let x : Evaluated = evaluated (operand_tree (tables_in w.loaded) operand) e w.store.now.state in
-    Evaluates (block_of w p g gs e k es stands) (between w.store v w.arenas c) x q → IsState v.now.state → ball ≡ raised_for (value (bindings x.state) x.tree) →
+    Evaluates (block_of w p g gs e k es stands) (between w.store v w.arenas c) x q → ball ≡ raised_for (value (bindings x.state) x.tree) →
     StandsAfter (moved w v c) (Now.Raising ball) (goal_step view w.loaded.preds g e w.store.now.state (with_rest gs k es))
 unfolding node_kind
-throw-step w v c p s operand q ball view g gs e k es node at stands value_is state raised =
+throw-step w v c p s operand q ball view g gs e k es node at stands value_is raised =
     let is : GoingIs w p (goal g gs) e k = going-of w p (goal g gs) e w.store.now.state k stands.runs in
     let t : Tree = operand_tree (tables_in w.loaded) operand in
     let x : Evaluated = evaluated t e w.store.now.state in
@@ -192,4 +201,4 @@ throw-step w v c p s operand q ball view g gs e k es node at stands value_is sta
     subst (λ h. StandsAfter (moved w v c) (Now.Raising ball) (goal_step view w.loaded.preds h e w.store.now.state (with_rest gs k es))) (sym it)
     (subst (λ h. StandsAfter (moved w v c) (Now.Raising ball) h) (sym (throw-comes-to view w.loaded.preds t gs e w.store.now.state k es))
     (subst (λ b. Stands (moved w v c) (Now.Raising ball) (config (raising b) es)) raised
-    (record { entries = stack-moved w v c is.block x.slots x.state es value_is.writes state stands.entries; runs = raising_now })))
+    (record { entries = lies-moved w v c is.block x.slots x.state es value_is.writes (stack-lies w es stands.entries); runs = raising_now })))

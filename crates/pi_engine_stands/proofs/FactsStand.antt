@@ -4,6 +4,7 @@ use Rattle.std.specs.Prelude.{slice_get, cond, is_some, if◌then◌else◌}
 use Rattle.std.proofs.lemmas.List.{take_all, drop-drop}
 use Rattle.pi_terms.specs.Tree.{Trees}
 use Rattle.pi_constraints.specs.State.{State, IsState}
+use Rattle.pi_engine_stands.specs.Rests.{Rests}
 use Rattle.pi_constraints.specs.Store.{StoreView, Keeps, Stays}
 use Rattle.pi_core.specs.GoalTree.{no_goals}
 use Rattle.pi_core.specs.CoreTree.{ClauseTree, PredTree}
@@ -13,12 +14,12 @@ use Rattle.pi_engine_arenas.specs.declared.frames.Point.{Point}
 use Rattle.pi_engine_arenas.specs.declared.run.Now.{Now}
 use Rattle.pi_engine_arenas.specs.Arenas.{ArenasView, DropsNewest, between}
 use Rattle.pi_engine_code.specs.declared.code.Predicate.{Predicate}
-use Rattle.pi_meaning.specs.Machine.Configuration.{Frame, Called, Config, config, going, failed, choice, facts_left, Back, Entry as EntryData}
+use Rattle.pi_meaning.specs.Machine.Configuration.{Frame, Called, Config, config, failed, choice, facts_left, Back, Entry as EntryData, settling}
 use Rattle.pi_meaning.specs.Machine.Step.{with_fact, from_unifying, later_facts, fact_tried, try_facts, back_to}
 use Rattle.pi_meaning.specs.Machine.Shape.{open_level}
 use Rattle.pi_engine_facts.specs.Trying.{IsFirst, IsNext, numbered}
 use Rattle.pi_engine_stands.specs.Here.{Block, Here, none_here, AreHeld}
-use Rattle.pi_engine_stands.specs.Stands.{World, tables_in, steps_of, now_here, CallStands, facts_kind, StackIs, StackStands, GoingIs, going_now, Stands}
+use Rattle.pi_engine_stands.specs.Stands.{World, tables_in, steps_of, now_here, CallStands, facts_kind, StackIs, StackStands, GoingIs, Stands}
 use Rattle.pi_engine_stands.specs.Evaluates.{Writes}
 use Rattle.pi_engine_stands.specs.Tries.{CallIs, LeavesLater}
 use Rattle.pi_engine_stands.proofs.HereLemmas.{Moves, goes_on-moves}
@@ -32,6 +33,8 @@ use Rattle.pi_engine_stands.proofs.CallsTried.{call-ended}
 use Rattle.pi_engine_stands.proofs.CallsStay.{call-stays}
 use Rattle.pi_engine_stands.proofs.EqualStands.{writes-kept, stack-moved, going-moved}
 use Rattle.pi_engine_arenas.specs.Frames.{call_at}
+use Rattle.pi_engine_stands.proofs.RestLemmas.{fact-rests}
+use Rattle.pi_engine_stands.proofs.SettlesFirst.{settling-rests}
 
 -- ---- the machine as data
 
@@ -54,7 +57,7 @@ pub facts-none : (ts : Trees) (cs : List ClauseTree) (b : Back) (es : List Entry
 facts-none ts cs b es none = tried-first ts cs b es ∙ ap (λ ds. first_tried ts ds b es) none
 
 pub facts-some : (ts : Trees) (cs rest : List ClauseTree) (c : ClauseTree) (r : State) (b : Back) (es : List EntryData) → from_unifying ts b.state cs ≡ c ∷ rest → with_fact ts b.state c ≡ Some r →
-    try_facts ts cs b es ≡ config (going no_goals b.slots r b.frames) (later_facts ts (from_unifying ts b.state rest) b es)
+    try_facts ts cs b es ≡ config (settling b.state r no_goals b.slots b.frames) (later_facts ts (from_unifying ts b.state rest) b es)
 facts-some ts cs rest c r b es some is =
     tried-first ts cs b es ∙ (ap (λ ds. first_tried ts ds b es) some ∙ ap (λ o. fact_tried ts rest b es o (config failed es)) is)
 
@@ -88,16 +91,16 @@ nothing-goes w v a m p base frame number called cs s k es again is predicate pas
       agrees = agrees-pass w v a m es passes stack within is.agrees;
     }
 
-pub fact-stands : {M : Type 0} (w : World M) (v u : StoreView M) (a : ArenasView M) (p base frame number : ℕ) (called : Called) (cs : List ClauseTree) (s : State) (k : List Frame) (es all : List EntryData) (again : Bool) →
-    CallIs w p base frame number called cs s k es again → called.function ≡ false → StackAfter w v a es all → open_level 0 all ≡ open_level 0 es → Keeps v u → IsState u.now.state →
-    Stands (moved w u a) (Now.Going (record { place = 0; count = 0; base = base; frame = frame })) (config (going no_goals [] u.now.state k) all)
-fact-stands w v u a p base frame number called cs s k es all again is predicate after opens keeps state =
+pub fact-stands : {M : Type 0} (w : World M) (v u : StoreView M) (a : ArenasView M) (p base frame number : ℕ) (called : Called) (cs : List ClauseTree) (s before : State) (k : List Frame) (es all : List EntryData) (again : Bool) →
+    CallIs w p base frame number called cs s k es again → called.function ≡ false → StackAfter w v a es all → open_level 0 all ≡ open_level 0 es → Keeps v u → Rests u.now.state →
+    Stands (moved w u a) (Now.Going (record { place = 0; count = 0; base = base; frame = frame })) (config (settling before u.now.state no_goals [] k) all)
+fact-stands w v u a p base frame number called cs s before k es all again is predicate after opens keeps state =
     let point : Point = record { place = 0; count = 0; base = base; frame = frame } in
     let w1 : World _ = moved w v a in
     let entries : StackStands w1 all =
     record {
       code = code-keeps w.loaded.code (tables_in w.loaded) w.store.names v.names w.loaded.preds (λ i name has. after.passes.stays.keeps.names i name has) is.code;
-      state = subst IsState (sym after.passes.stays.state) is.state;
+      state = subst Rests (sym after.passes.stays.state) is.state;
       tables = λ i t has. keeps-terms w.store v after.passes.stays.keeps i t (is.tables i t has);
       level = after.passes.level ∙ is.level ∙ sym opens;
       kept = after.kept;
@@ -107,7 +110,7 @@ fact-stands w v u a p base frame number called cs s k es all again is predicate 
     let writes : Writes runs.block (between v u a a) [] u.now.state = writes-kept runs.block v u a [] keeps runs.behind.slots in
     record {
       entries = stack-moved w1 u a runs.block [] u.now.state all writes state entries;
-      runs = going_now (going-moved w1 u a point no_goals [] [] u.now.state k all entries runs writes);
+      runs = settling-rests (moved w u a) point before no_goals [] k state (going-moved w1 u a point no_goals [] [] u.now.state k all entries runs writes);
     }
 
 -- ---- what is left of a call
@@ -244,10 +247,11 @@ fact-taken w v x u b p base frame from number slots pred predicate ts cs s k es 
     let told : (one ≡ true) × (u.now.state ≡ found.state) = told-by (with_fact ts x.now.state found.fact) found.state one u.now.state (ap (λ q. with_fact ts q found.fact) here ∙ found.unifies) answers in
     let rest : List ClauseTree = from_unifying ts s (drop (number + 1 - predicate.first) pred.clauses) in
     let behind : found.behind ≡ drop (number + 1 - predicate.first) pred.clauses = behind-of pred.clauses found.behind found.fact predicate.first number (omega (arith, low, found.from_on)) found.here in
-    let whole : try_facts ts cs (back_to [] s k) es ≡ config (going no_goals [] found.state k) (later_facts ts rest (back_to [] s k) es) =
+    let whole : try_facts ts cs (back_to [] s k) es ≡ config (settling s found.state no_goals [] k) (later_facts ts rest (back_to [] s k) es) =
     facts-some ts cs found.behind found.fact found.state (back_to [] s k) es (ap (from_unifying ts s) (facts-left w p base frame from called cs s k es again pred predicate is at there) ∙ found.found) found.unifies
-    ∙ ap (λ ds. config (going no_goals [] found.state k) (later_facts ts (from_unifying ts s ds) (back_to [] s k) es)) behind in
+    ∙ ap (λ ds. config (settling s found.state no_goals [] k) (later_facts ts (from_unifying ts s ds) (back_to [] s k) es)) behind in
     subst (Stands (moved w u b) now) (sym whole)
-    (subst (λ n. Stands (moved w u b) n (config (going no_goals [] found.state k) (later_facts ts rest (back_to [] s k) es))) (sym (comes ∙ ap (λ q. if q then Now.Going point else Now.Failing) told.0))
-    (subst (λ r. Stands (moved w u b) (Now.Going point) (config (going no_goals [] r k) (later_facts ts rest (back_to [] s k) es))) told.1
-    (fact-stands w1 x u b p base frame from called cs s k es (later_facts ts rest (back_to [] s k) es) again is1 refl kept.after kept.opens keeps (state told.0))))
+    (subst (λ n. Stands (moved w u b) n (config (settling s found.state no_goals [] k) (later_facts ts rest (back_to [] s k) es))) (sym (comes ∙ ap (λ q. if q then Now.Going point else Now.Failing) told.0))
+    (subst (λ r. Stands (moved w u b) (Now.Going point) (config (settling s r no_goals [] k) (later_facts ts rest (back_to [] s k) es))) told.1
+    (fact-stands w1 x u b p base frame from called cs s s k es (later_facts ts rest (back_to [] s k) es) again is1 refl kept.after kept.opens keeps
+    (subst Rests (sym told.1) (fact-rests ts s found.state found.fact found.unifies (subst IsState told.1 (state told.0)) (subst Rests (sym same) is.state))))))

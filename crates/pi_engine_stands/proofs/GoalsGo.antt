@@ -27,8 +27,8 @@ use Rattle.pi_meaning.specs.Machine.Built.{AreOfRules}
 use Rattle.pi_meaning.specs.Machine.Leads.{Leads}
 use Rattle.pi_meaning.specs.Machine.Next.{some_ticks}
 use Rattle.pi_engine_stands.specs.Here.{Block, AreHere, none_here, value_here}
-use Rattle.pi_engine_stands.specs.Stands.{IsNumberOf, HasNumber, IsCodeOf, tables_in, World, steps_of, NowIs, going_now, telling_now, failing_now, raising_now, StackStands, Stands, StandsGoing, GoingIs}
-use Rattle.pi_engine_stands.specs.Makes.{StandsAfter, RunsGoal, RunsGoalIn}
+use Rattle.pi_engine_stands.specs.Stands.{IsNumberOf, HasNumber, IsCodeOf, tables_in, World, steps_of, NowIs, going_now, telling_now, failing_now, raising_now, StackBelow, Stands, StandsGoing, GoingIs, settling_now}
+use Rattle.pi_engine_stands.specs.Makes.{StandsAfter, RunsGoal, RunsGoalIn, SilentlyTo, already}
 use Rattle.pi_engine_stands.specs.Goes.{counted, spent, TicksUnless, HasNone, IsAt, Goes, IsSpent, TicksOn, AtGoal, GoalGoes, IsSilent, counting}
 use Rattle.pi_engine_stands.proofs.FramesStand.{going-of, going-size}
 use Rattle.pi_engine_stands.proofs.EqualStands.{kind-of-node, going-behind, node-readable}
@@ -41,11 +41,14 @@ use Rattle.pi_engine_stands.proofs.ApplyRuns.{Applies, applies, apply-form}
 use Rattle.pi_meaning.proofs.Machine.LeadLemmas.{leads-none, leads-silent, step-silent, step-ticks, step-enters, step-at_tick, good-silent, good-tick, step-deepens, good-deeper}
 use Rattle.pi_meaning.proofs.Machine.GoodSteps.{step-good}
 use Rattle.pi_engine_stands.specs.Changes.{change}
+use Rattle.pi_engine_stands.proofs.StacksLie.{stack-lies, below-lies}
+use Rattle.pi_engine_stands.proofs.SettlesFirst.{settles-first, ticks-behind}
 
 -- ---- where a run is
 
 ended-not : {M : Type 0} (w : World M) (now : Now) (e : RunEnd) (x : NowData) (X : Type 0) → now ≡ Now.Ended e → NowIs w now x → X
 ended-not w now e x X same (going_now is) = absurd cc
+ended-not w now e x X same (settling_now is none) = absurd cc
 ended-not w now e x X same (telling_now is) = absurd cc
 ended-not w now e x X same failing_now = absurd cc
 ended-not w now e x X same raising_now = absurd cc
@@ -89,8 +92,17 @@ pub record GoalThere {M : Type 0} (w : World M) (p : Point) (c : Config) : Type 
   pub gs : GoalTrees
   pub e : Places
   pub k : List Frame
-  pub is : c ≡ config (going (goal g gs) e w.store.now.state k) c.stack
+  pub steps : (v : View) (names : List NameSlot) → SilentlyTo v w.loaded.preds names c (config (going (goal g gs) e w.store.now.state k) c.stack)
   pub stands : StandsGoing w p (goal g gs) e k c.stack
+
+-- where it is run: silent steps lead there, as far as something was settled
+abbrev pub at_goal : {M : Type 0} (w : World M) (p : Point) (c : Config) → GoalThere w p c → Config
+at_goal w p c it = config (going (goal it.g it.gs) it.e w.store.now.state it.k) c.stack
+
+pub goal-first : {M : Type 0} (w after : World M) (p : Point) (c : Config) (v : View) (names : List NameSlot) (mode : Mode) (old new : Budget) (now : Now) → w.loaded ≡ after.loaded → AreOfRules w.loaded.preds → IsGood c → (it : GoalThere w p c) →
+    (IsGood (at_goal w p c it) → TicksOn v names mode old new after now (at_goal w p c it)) → TicksOn v names mode old new after now c
+goal-first w after p c v names mode old new now same rules good it behind =
+    ticks-behind v names mode old new after now c (at_goal w p c it) (subst (λ l. AreOfRules l.preds) same rules) good (subst (λ l. SilentlyTo v l.preds names c (at_goal w p c it)) same (it.steps v names)) behind
 
 same-step : (o : Option Step) (s q : Step) → o ≡ Some s → o ≡ Some q → s ≡ q
 same-step o s q at other = cc
@@ -99,11 +111,22 @@ no-goal : (t : Tables) (steps : List Step) (b : Block) (place n : ℕ) (value : 
 no-goal t steps b place n value last s X at some no_value none_here = absurd (omega (arith, some))
 no-goal t steps b place n value last s X at some no_value (value_here is) = absurd (no_value is.operand (ap (λ r. r.node) (same-step (slice_get steps place) s is.step at is.stands) ∙ is.node))
 
-there : {M : Type 0} (w : World M) (p : Point) (s : Step) (x : NowData) (es : List EntryData) → slice_get (steps_of w.loaded) p.place ≡ Some s → 0 < p.count → ((o : Operand) → s.node ≢ Node.Value o) → StackStands w es → NowIs w (Now.Going p) x → GoalThere w p (config x es)
+there : {M : Type 0} (w : World M) (p : Point) (s : Step) (x : NowData) (es : List EntryData) → slice_get (steps_of w.loaded) p.place ≡ Some s → 0 < p.count → ((o : Operand) → s.node ≢ Node.Value o) → StackBelow w x es → NowIs w (Now.Going p) x → GoalThere w p (config x es)
 there w p s x es at some no_value entries (going_now {gs = no_goals} {e = e} {k = k} is) =
     no-goal (tables_in w.loaded) (steps_of w.loaded) is.block p.place p.count is.value is.last s _ at some no_value is.goals
 there w p s x es at some no_value entries (going_now {gs = goal g gs} {e = e} {k = k} is) =
-    record { g = g; gs = gs; e = e; k = k; is = refl; stands = record { entries = entries; runs = going_now is } }
+    record { g = g; gs = gs; e = e; k = k; steps = λ v names. already; stands = record { entries = entries; runs = going_now is } }
+there w p s x es at some no_value entries (settling_now {gs = no_goals} {e = e} {k = k} is none) =
+    no-goal (tables_in w.loaded) (steps_of w.loaded) is.block p.place p.count is.value is.last s _ at some no_value is.goals
+there w p s x es at some no_value entries (settling_now {before = before} {gs = goal g gs} {e = e} {k = k} is none) =
+    record {
+      g = g;
+      gs = gs;
+      e = e;
+      k = k;
+      steps = λ v names. settles-first v w.loaded.preds names before w.store.now.state (goal g gs) e k es none;
+      stands = record { entries = entries; runs = going_now is };
+    }
 
 pub goal-there : {M : Type 0} (w : World M) (p : Point) (s : Step) (c : Config) → AtGoal w p s c → ((o : Operand) → s.node ≢ Node.Value o) → GoalThere w p c
 goal-there w p s c is no_value = there w p s c.now c.stack is.at is.some no_value is.stands.entries is.stands.runs
@@ -136,10 +159,11 @@ runs-silent before after p s now mode b same silent runs v fits names c is =
     let x = silent-step v preds (tables_in before.loaded) going_it.block s.node it.g it.gs it.e before.store.now.state it.k c.stack silent (node-readable before p s it.g it.gs it.e it.k s.node is.at going_it refl)
     (kind-of-node before p s it.g it.gs it.e it.k s.node is.at going_it refl) in
     let stands : Stands after now x.0 = stands-silent after now _ x.0 x.1 (runs v fits it.g it.gs it.e it.k c.stack is.at it.stands) in
-    silent-ticks v names mode b after now c
-    (silent-goes v names after now c x.0 (subst (λ l. AreOfRules l.preds) same is.rules) is.good
-    (ap (λ l. step v l.preds names c) (sym same) ∙ ap (step v preds names) it.is ∙ x.1) (is-at v names after now x.0 stands))
-    (unspent after mode b now x.0 stands)
+    let d : Config = at_goal before p c it in
+    goal-first before after p c v names mode b b now same is.rules is.good it
+    (λ good. silent-ticks v names mode b after now d
+    (silent-goes v names after now d x.0 (subst (λ l. AreOfRules l.preds) same is.rules) good (ap (λ l. step v l.preds names d) (sym same) ∙ x.1) (is-at v names after now x.0 stands))
+    (unspent after mode b now x.0 stands))
 
 -- ---- Ticks
 
@@ -186,11 +210,10 @@ no-value : (n o : Node) (x : Operand) → n ≡ o → (o ≡ Node.Value x → �
 no-value n o x same other is = other (sym same ∙ is)
 
 tick-form : {M : Type 0} (w : World M) (p : Point) (s : Step) (c : Config) (v : View) (names : List NameSlot) → AtGoal w p s c → s.node ≡ Node.Tick → (it : GoalThere w p c) →
-    step v w.loaded.preds names c ≡ with_tick (config (going it.gs it.e w.store.now.state it.k) c.stack)
+    step v w.loaded.preds names (at_goal w p c it) ≡ with_tick (config (going it.gs it.e w.store.now.state it.k) c.stack)
 unfolding step goal_step node_kind
 tick-form w p s c v names is node it =
-    ap (step v w.loaded.preds names) it.is
-    ∙ ap (λ g. goal_step v w.loaded.preds g it.e w.store.now.state (with_rest it.gs it.k c.stack))
+    ap (λ g. goal_step v w.loaded.preds g it.e w.store.now.state (with_rest it.gs it.k c.stack))
     (tick-of it.g (kind-of-node w p s it.g it.gs it.e it.k Node.Tick is.at (going-of w p _ it.e w.store.now.state it.k it.stands.runs) node))
 
 pub tick-passes : {M : Type 0} (w : World M) (p q : Point) (s : Step) (mode : Mode) (old new : Budget) → s.node ≡ Node.Tick → counted mode old new ≡ 1 → (p.place + s.size < 2 ^ 32 → q ≡ point_behind p s) → GoalGoes mode old new p s (change w w (Now.Going q))
@@ -198,22 +221,26 @@ tick-passes w p q s mode old new node one next v fits names c is =
     let it : GoalThere w p c = goal-there w p s c is (λ o. no-value s.node Node.Tick o node (λ h. absurd cc)) in
     let runs : GoingIs w p (goal it.g it.gs) it.e it.k = going-of w p _ it.e w.store.now.state it.k it.stands.runs in
     let size : (s.size ≡ nodes it.g) × (p.place + nodes it.g < 2 ^ 32) = going-size w p s it.g it.gs it.e it.k is.at runs in
-    record {
-      goes = subst (λ k. Goes v names (some_ticks k) w (Now.Going q) c) (sym one)
-          (ticks-on v names w (Now.Going q) c (config (going it.gs it.e w.store.now.state it.k) c.stack) is.rules is.good (tick-form w p s c v names is node it)
+    let d : Config = at_goal w p c it in
+    goal-first w w p c v names mode old new (Now.Going q) refl is.rules is.good it
+    (λ good. record {
+      goes = subst (λ k. Goes v names (some_ticks k) w (Now.Going q) d) (sym one)
+          (ticks-on v names w (Now.Going q) d (config (going it.gs it.e w.store.now.state it.k) c.stack) is.rules good (tick-form w p s c v names is node it)
           (subst (λ r. Stands w (Now.Going r) (config (going it.gs it.e w.store.now.state it.k) c.stack)) (sym (next (omega (arith, size.0, size.1))))
           (record { entries = it.stands.entries; runs = going_now (going-behind w p s it.g it.gs it.e it.k is.at runs) })));
       spent = tt;
-    }
+    })
 
 pub tick-refused : {M : Type 0} (w : World M) (p : Point) (s : Step) (mode : Mode) (old new : Budget) (now : Now) → s.node ≡ Node.Tick → new ≡ old → now ≡ Now.Ended (spent mode) → HasNone mode old → GoalGoes mode old new p s (change w w now)
 tick-refused w p s mode old new now node same ended none v fits names c is =
     let it : GoalThere w p c = goal-there w p s c is (λ o. no-value s.node Node.Tick o node (λ h. absurd cc)) in
-    record {
-      goes = subst (λ k. Goes v names (some_ticks k) w now c) (sym (none-counted mode old new same))
-          (ticks-out v names mode w now c (config (going it.gs it.e w.store.now.state it.k) c.stack) is.rules is.good (tick-form w p s c v names is node it) ended);
+    let d : Config = at_goal w p c it in
+    goal-first w w p c v names mode old new now refl is.rules is.good it
+    (λ good. record {
+      goes = subst (λ k. Goes v names (some_ticks k) w now d) (sym (none-counted mode old new same))
+          (ticks-out v names mode w now d (config (going it.gs it.e w.store.now.state it.k) c.stack) is.rules good (tick-form w p s c v names is node it) ended);
       spent = spent-is mode old new now same ended none;
-    }
+    })
 
 -- ---- calls, by what their step comes to
 
@@ -223,36 +250,42 @@ pub record CallThere {M : Type 0} (w : World M) (p : Point) (c : Config) (v : Vi
   pub next : Config
   pub comes : goal_step v w.loaded.preds it.g it.e w.store.now.state (with_rest it.gs it.k c.stack) ≡ call_step quiet next
 
-pub by-goal : {M : Type 0} (w : World M) (p : Point) (c : Config) (v : View) (names : List NameSlot) (it : GoalThere w p c) → step v w.loaded.preds names c ≡ goal_step v w.loaded.preds it.g it.e w.store.now.state (with_rest it.gs it.k c.stack)
+pub by-goal : {M : Type 0} (w : World M) (p : Point) (c : Config) (v : View) (names : List NameSlot) (it : GoalThere w p c) → step v w.loaded.preds names (at_goal w p c it) ≡ goal_step v w.loaded.preds it.g it.e w.store.now.state (with_rest it.gs it.k c.stack)
 unfolding step
-by-goal w p c v names it = ap (step v w.loaded.preds names) it.is
+by-goal w p c v names it = refl
 
 pub call-counted : {M : Type 0} (w after : World M) (p : Point) (s : Step) (now : Now) (c : Config) (v : View) (names : List NameSlot) (quiet : Bool) (mode : Mode) (old new : Budget) (x y : Now) → w.loaded ≡ after.loaded → AtGoal w p s c → CallThere w p c v names quiet →
     RunsGoal p s (change w after now) → TicksUnless quiet (counting mode old new) x y true → TicksOn v names mode old new after now c
 call-counted w after p s now c v names true mode old new x y same is there_it runs ticks =
     let stands : Stands after now there_it.next = subst (StandsAfter after now) there_it.comes (runs v there_it.it.g there_it.it.gs there_it.it.e there_it.it.k c.stack is.at there_it.it.stands) in
-    record {
-      goes = subst (λ k. Goes v names (some_ticks k) after now c) (sym (none-counted mode old new ticks.1))
-          (quiet-on v names after now c there_it.next (subst (λ l. AreOfRules l.preds) same is.rules) is.good (ap (λ l. step v l.preds names c) (sym same) ∙ by-goal w p c v names there_it.it ∙ there_it.comes) stands);
+    let d : Config = at_goal w p c there_it.it in
+    goal-first w after p c v names mode old new now same is.rules is.good there_it.it
+    (λ good. record {
+      goes = subst (λ k. Goes v names (some_ticks k) after now d) (sym (none-counted mode old new ticks.1))
+          (quiet-on v names after now d there_it.next (subst (λ l. AreOfRules l.preds) same is.rules) good (ap (λ l. step v l.preds names d) (sym same) ∙ by-goal w p c v names there_it.it ∙ there_it.comes) stands);
       spent = unspent after mode new now there_it.next stands;
-    }
+    })
 call-counted w after p s now c v names false mode old new x y same is there_it runs ticks =
     let stands : Stands after now there_it.next = subst (StandsAfter after now) there_it.comes (runs v there_it.it.g there_it.it.gs there_it.it.e there_it.it.k c.stack is.at there_it.it.stands) in
-    record {
-      goes = subst (λ k. Goes v names (some_ticks k) after now c) (sym ticks.0)
-          (ticks-on v names after now c there_it.next (subst (λ l. AreOfRules l.preds) same is.rules) is.good (ap (λ l. step v l.preds names c) (sym same) ∙ by-goal w p c v names there_it.it ∙ there_it.comes) stands);
+    let d : Config = at_goal w p c there_it.it in
+    goal-first w after p c v names mode old new now same is.rules is.good there_it.it
+    (λ good. record {
+      goes = subst (λ k. Goes v names (some_ticks k) after now d) (sym ticks.0)
+          (ticks-on v names after now d there_it.next (subst (λ l. AreOfRules l.preds) same is.rules) good (ap (λ l. step v l.preds names d) (sym same) ∙ by-goal w p c v names there_it.it ∙ there_it.comes) stands);
       spent = unspent after mode new now there_it.next stands;
-    }
+    })
 
 pub call-refused : {M : Type 0} (w : World M) (p : Point) (s : Step) (now : Now) (c : Config) (v : View) (names : List NameSlot) (quiet : Bool) (mode : Mode) (old new : Budget) (x : Now) → AtGoal w p s c → CallThere w p c v names quiet →
     TicksUnless quiet (counting mode old new) x now false → TicksOn v names mode old new w now c
 call-refused w p s now c v names true mode old new x is there_it ticks = absurd cc
 call-refused w p s now c v names false mode old new x is there_it ticks =
-    record {
-      goes = subst (λ k. Goes v names (some_ticks k) w now c) (sym (none-counted mode old new ticks.0))
-          (ticks-out v names mode w now c there_it.next is.rules is.good (by-goal w p c v names there_it.it ∙ there_it.comes) ticks.1);
+    let d : Config = at_goal w p c there_it.it in
+    goal-first w w p c v names mode old new now refl is.rules is.good there_it.it
+    (λ good. record {
+      goes = subst (λ k. Goes v names (some_ticks k) w now d) (sym (none-counted mode old new ticks.0))
+          (ticks-out v names mode w now d there_it.next is.rules good (by-goal w p c v names there_it.it ∙ there_it.comes) ticks.1);
       spent = spent-is mode old new now ticks.0 ticks.1 ticks.2;
-    }
+    })
 
 pub call-there : {M : Type 0} (w : World M) (p : Point) (s : Step) (c : Config) (v : View) (names : List NameSlot) (q operands : ℕ) (predicate : Predicate) → AtGoal w p s c → s.node ≡ Node.Call q operands → IsFound w q predicate → CallThere w p c v names predicate.is_quiet
 call-there w p s c v names q operands predicate is node known =
@@ -288,11 +321,11 @@ found-predicate w function q code number =
 
 pub call-found : {M : Type 0} (w : World M) (p : Point) (s : Step) (c : Config) (q operands : ℕ) → AtGoal w p s c → s.node ≡ Node.Call q operands → FoundPredicate w q
 call-found w p s c q operands is node =
-    found-predicate w false q is.stands.entries.code (subst (HasNumber w.loaded.preds) node (is.stands.entries.code.numbers p.place s is.at))
+    found-predicate w false q (below-lies w c.now c.stack is.stands.entries).code (subst (HasNumber w.loaded.preds) node ((below-lies w c.now c.stack is.stands.entries).code.numbers p.place s is.at))
 
 pub apply-found : {M : Type 0} (w : World M) (p : Point) (s : Step) (c : Config) (q operands into : ℕ) → AtGoal w p s c → s.node ≡ Node.Apply q operands into → FoundPredicate w q
 apply-found w p s c q operands into is node =
-    found-predicate w true q is.stands.entries.code (subst (HasNumber w.loaded.preds) node (is.stands.entries.code.numbers p.place s is.at))
+    found-predicate w true q (below-lies w c.now c.stack is.stands.entries).code (subst (HasNumber w.loaded.preds) node ((below-lies w c.now c.stack is.stands.entries).code.numbers p.place s is.at))
 
 pub no-predicate : {M X : Type 0} (w : World M) (q : ℕ) → FoundPredicate w q → slice_get w.loaded.code.predicates.items q ≡ None → X
 no-predicate w q it none =
@@ -321,4 +354,4 @@ pub fail-step : {M : Type 0} (w : World M) (p : Point) (s : Step) (view : View) 
 unfolding node_kind goal_step
 fail-step w p s view g gs e k es node at stands =
     let it : g ≡ fail = fail-of g (kind-of-node w p s g gs e k Node.Fail at (going-of w p _ e w.store.now.state k stands.runs) node) in
-    subst (λ h. StandsAfter w Now.Failing (goal_step view w.loaded.preds h e w.store.now.state (with_rest gs k es))) (sym it) (record { entries = stands.entries; runs = failing_now })
+    subst (λ h. StandsAfter w Now.Failing (goal_step view w.loaded.preds h e w.store.now.state (with_rest gs k es))) (sym it) (record { entries = stack-lies w es stands.entries; runs = failing_now })

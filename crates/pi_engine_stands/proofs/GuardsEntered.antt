@@ -3,7 +3,8 @@ use Rattle.std.proofs.Common.{◌≡◌, ◌≢◌, ℕ, suc, ◌+◌, Bool, fal
 use Rattle.std.specs.Prelude.{slice_get}
 use Rattle.pi_terms.specs.Places.{Places}
 use Rattle.pi_constraints.specs.Store.{StoreView}
-use Rattle.pi_constraints.specs.State.{State, IsState}
+use Rattle.pi_constraints.specs.State.{State}
+use Rattle.pi_engine_stands.specs.Rests.{Rests}
 use Rattle.pi_core.specs.GoalTree.{GoalTree, truth, fail, tick, call, apply, seq, alternatives, if_else, not, once, collect, count, catch, no_goals, goal}
 use Rattle.pi_core.specs.CoreTree.{ClauseTree}
 use Rattle.pi_engine_arenas.specs.declared.arenas.Kind.{Kind}
@@ -102,7 +103,7 @@ guard-entered w v a p base frame number slots guard called c cs s k es again pre
     (record {
       entries = record {
         code = code-keeps w.loaded.code (tables_in w.loaded) w.store.names v.names w.loaded.preds (λ i name has. kept.passes.stays.keeps.names i name has) is.code;
-        state = subst IsState (sym kept.passes.stays.state) is.state;
+        state = subst Rests (sym kept.passes.stays.state) is.state;
         tables = λ i t has. keeps-terms w.store v kept.passes.stays.keeps i t (is.tables i t has);
         level = sym long;
         kept = kept.kept;

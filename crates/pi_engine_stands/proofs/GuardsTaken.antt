@@ -3,7 +3,8 @@ use Rattle.std.proofs.Common.{◌≡◌, ℕ, zero, suc, ◌+◌, ◌≤◌, max
 use Rattle.std.specs.Prelude.{slice_get}
 use Rattle.std.proofs.lemmas.List.{length-take, length-take-le, take_all}
 use Rattle.pi_terms.specs.Places.{Places}
-use Rattle.pi_constraints.specs.State.{State, IsState}
+use Rattle.pi_constraints.specs.State.{State}
+use Rattle.pi_engine_stands.specs.Rests.{Rests}
 use Rattle.pi_core.specs.CoreTree.{ClauseTree}
 use Rattle.pi_engine_arenas.specs.declared.arenas.Back.{Back}
 use Rattle.pi_engine_arenas.specs.declared.blocks.BlocksMark.{BlocksMark}
@@ -32,7 +33,7 @@ brought-few m b = omega (arith, ap length (brought_back-is m b), length-slots_be
 -- what is true of a run, whatever runs
 pub record GuardFacts {M : Type 0} (w : World M) : Type 0 where
   pub code : IsCodeOf w.loaded.code (tables_in w.loaded) w.store.names w.loaded.preds
-  pub state : IsState w.store.now.state
+  pub state : Rests w.store.now.state
   pub tables : Extend w.loaded.terms w.store.now.terms
 
 -- the call, with the slots that its rule's head has filled

@@ -7,7 +7,7 @@ use Rattle.pi_terms.specs.PatternTree.{PatternTrees, no_patterns, pattern}
 use Rattle.pi_constraints.specs.HeadMatch.{matched_all_in}
 use Rattle.pi_core.specs.CoreTree.{ClauseTree, PredTree, pattern_trees, pred_tree}
 use Rattle.pi_meaning.specs.CoreMeaning.Sound.{pattern_count}
-use Rattle.pi_constraints.specs.State.{State, IsState, bindings}
+use Rattle.pi_constraints.specs.State.{State, bindings, IsState}
 use Rattle.pi_constraints.specs.Store.{StoreView, Terms}
 use Rattle.pi_constraints.specs.declared.store.Ref.{Ref}
 use Rattle.pi_core.specs.declared.core_program.Pattern.{Pattern}

@@ -4,7 +4,7 @@ use Rattle.std.specs.Prelude.{slice_get}
 use Rattle.std.proofs.lemmas.List.{take_all, length-append}
 use Rattle.pi_terms.specs.Places.{Places}
 use Rattle.pi_constraints.specs.Store.{StoreView, Marks, Extend}
-use Rattle.pi_constraints.specs.State.{IsState}
+use Rattle.pi_engine_stands.specs.Rests.{Rests}
 use Rattle.pi_core.specs.GoalTree.{GoalTree, GoalTrees, goal, children, nodes, nodes_all}
 use Rattle.pi_core.specs.GoalCells.{flat_all}
 use Rattle.pi_terms.proofs.GetLemmas.{get_append_last}
@@ -126,7 +126,7 @@ stack-entered w v mark base n from kind y es stands marks agrees opens kept some
     let more : length (entries_of w ++ x ∷ []) ≡ suc (length (entries_of w)) = length-append (entries_of w) (x ∷ []) ∙ omega arith in
     record {
       code = code-keeps w.loaded.code (tables_in w.loaded) w.store.names v.names w.loaded.preds (λ i name has. marks.stays.keeps.names i name has) stands.code;
-      state = subst IsState (sym marks.stays.state) stands.state;
+      state = subst Rests (sym marks.stays.state) stands.state;
       tables = λ i t has. marks.stays.keeps.terms (record { number = i }) t (stands.tables i t has);
       level = more ∙ ap suc (sym long) ∙ sym opens;
       kept = sym (ap slots_kept_by (ap (entry_at (entries_of w ++ x ∷ [])) more ∙ get_append_last (entries_of w) x));

@@ -1,6 +1,8 @@
 pub mod HereLemmas
 pub mod PointLemmas
 pub mod StandsLemmas
+pub mod StacksLie
+pub mod RestLemmas
 pub mod GoalsStand
 pub mod FramesStand
 pub mod NodeLemmas
@@ -61,6 +63,7 @@ pub mod BuiltInStands
 pub mod SilentSteps
 pub mod ReadsHere
 pub mod ApplyRuns
+pub mod SettlesFirst
 pub mod GoalsGo
 pub mod StopsGo
 pub mod KnownGoals

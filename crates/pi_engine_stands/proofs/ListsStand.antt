@@ -13,7 +13,7 @@ use Rattle.pi_terms.specs.ListCopies.{list_cell, list_of_copies, new_in_all}
 use Rattle.pi_core.specs.GoalTree.{no_goals, collect}
 use Rattle.pi_constraints.specs.declared.store.Ref.{Ref}
 use Rattle.pi_terms.proofs.GetLemmas.{get_some, take_more}
-use Rattle.pi_constraints.proofs.KeepsLemmas.{news-next, news-keep}
+use Rattle.pi_constraints.proofs.KeepsLemmas.{news-next}
 use Rattle.pi_unify.specs.Copying.{with_variables}
 use Rattle.pi_unify.proofs.KeepsLemmas.{keeps_none, keeps_then}
 use Rattle.pi_engine_arenas.specs.declared.arenas.Back.{Back}
@@ -43,6 +43,7 @@ use Rattle.pi_engine_stands.proofs.WrittenGoals.{own-step, own-block}
 use Rattle.pi_engine_stands.proofs.CaughtStand.{news-are}
 use Rattle.pi_engine_stands.proofs.SlotsGiven.{given}
 use Rattle.pi_engine_stands.proofs.CollectsStand.{CollectsAt, collects-at, collect-node}
+use Rattle.pi_engine_stands.proofs.RestLemmas.{news-rest}
 
 -- ---- values are placed
 
@@ -210,4 +211,4 @@ list-given w c v u d new back place first value into begins slot code step rs r 
     (sym (list-step s at.value at.into got b at.places w.store.now.state at.frames es at.level at.back_is))
     (given (moved after after.store (with_collected c d)) u new back.base place back.frame at.into begins slot step r (list_of_copies (next w.store.now.state) got) (with_new_variables (new_in_all got) w.store.now.state) (collect at.goal at.value at.into) at.places at.frames es
     gone at.own out.agrees own.0 own.2 starts (is ∙ ap (slot_number begins) (sym (same-into step.node value into at.value at.into node own.1))) (keeps_then w.store v u put.keeps list.0.keeps) (list.0.state ∙ put.state)
-    (news-keep (new_in_all got) w.store.now.state out.state) (subst (IsTerm u r) (list-of-copies (next w.store.now.state) got) list.1) slots kept stays most)
+    (news-rest (new_in_all got) w.store.now.state out.state) (subst (IsTerm u r) (list-of-copies (next w.store.now.state) got) list.1) slots kept stays most)

@@ -5,7 +5,8 @@ use Rattle.std.proofs.lemmas.List.{length-map, map-append, length-take-le, lengt
 use Rattle.std.proofs.lemmas.Option.{slice_get-get_or}
 use Rattle.pi_terms.specs.Tree.{Tree, Trees, no_trees, tree, comp}
 use Rattle.pi_terms.specs.Places.{Places}
-use Rattle.pi_constraints.specs.State.{State, IsState, bindings}
+use Rattle.pi_constraints.specs.State.{State, bindings}
+use Rattle.pi_engine_stands.specs.Rests.{Rests}
 use Rattle.pi_constraints.specs.Value.{value as value_of, IsAcyclic}
 use Rattle.pi_constraints.specs.Store.{StoreView, Terms, Stays, IsTerm, AreTerms}
 use Rattle.pi_core.specs.GoalTree.{GoalTree, apply}
@@ -29,7 +30,7 @@ use Rattle.pi_engine_arenas.specs.Arenas.{ArenasView, DropsNewest}
 use Rattle.pi_meaning.specs.Machine.Configuration.{Frame, Entry as EntryData, Strict, strict, value_level, Back as BackData, config, raising, in_places}
 use Rattle.pi_meaning.specs.Machine.Step.{end_step}
 use Rattle.pi_engine_stands.specs.Here.{Block, block_end, Here, AreHeld, HoldsArguments, NodeIsReadable}
-use Rattle.pi_engine_stands.specs.Stands.{World, Loaded, tables_in, steps_of, now_here, block_at, IsCodeOf, HasNumber, GoalStands, KindIs, once_kind, not_kind, if_kind, guard_kind, apply_kind, collect_kind, count_kind, StackStands, Stands, raising_now}
+use Rattle.pi_engine_stands.specs.Stands.{World, Loaded, tables_in, steps_of, now_here, block_at, IsCodeOf, HasNumber, GoalStands, KindIs, once_kind, not_kind, if_kind, guard_kind, apply_kind, collect_kind, count_kind, StackLies, Stands, raising_now}
 use Rattle.pi_engine_stands.specs.Makes.{unresolved_for}
 use Rattle.pi_engine_stands.specs.Fails.{IsBack}
 use Rattle.pi_engine_stands.proofs.NodeLemmas.{kind-here}
@@ -39,6 +40,7 @@ use Rattle.pi_engine_stands.proofs.ArgumentsStand.{behind-first}
 use Rattle.pi_engine_stands.proofs.BackStand.{back-kind, Popped, popped, popped-stands}
 use Rattle.pi_engine_stands.proofs.CallRuns.{name-at, args-count}
 use Rattle.pi_engine_stands.proofs.WrittenGoals.{own-step, own-block}
+use Rattle.pi_engine_stands.proofs.StacksLie.{stack-lies}
 
 -- ---- the slots of a block
 
@@ -223,11 +225,10 @@ unfolding end_step
 apply-step s called into b e t k es level back = ap (λ q. end_step q b es) level ∙ ap (λ q. end_step (value_level called into) q es) back
 
 -- a store that changes behind a stack
-pub store-changes : {M : Type 0} (w : World M) (u : StoreView M) (es : List EntryData) → StackStands w es → Stays w.store u → StackStands (moved w u w.arenas) es
+pub store-changes : {M : Type 0} (w : World M) (u : StoreView M) (es : List EntryData) → StackLies w es → Stays w.store u → StackLies (moved w u w.arenas) es
 store-changes w u es stands stays =
     record {
       code = code-keeps w.loaded.code (tables_in w.loaded) w.store.names u.names w.loaded.preds (λ i name has. stays.keeps.names i name has) stands.code;
-      state = subst IsState (sym stays.state) stands.state;
       tables = λ i t has. stays.keeps.terms (record { number = i }) t (stands.tables i t has);
       level = stands.level;
       kept = stands.kept;
@@ -261,11 +262,11 @@ value-missing w c u back place caller n operands into arity code step source rs 
     let name : source.name ≡ at.name =
     source-name (preds_of w.loaded.code) n own.pred source (ap (slice_get (map pred_tree (preds_of w.loaded.code))) (sym same) ∙ own.source) (ap (λ q. slice_get (preds_of q) n) is_code ∙ at_source) ∙ sym own.name_is in
     let is_call : IsTerm u call (comp at.name at.called) = subst (λ m. IsTerm u call (comp m at.called)) name (puts at.called terms) in
-    let sound : IsState u.now.state = subst IsState (sym stays.state) out.state in
+    let sound : Rests u.now.state = subst Rests (sym stays.state) out.state in
     let raised : ball ≡ unresolved_for (value_of (bindings w.store.now.state) (comp at.name at.called)) =
-    subst (λ q. ball ≡ unresolved_for (value_of (bindings q) (comp at.name at.called))) stays.state (tells (comp at.name at.called) is_call sound.acyclic) in
+    subst (λ q. ball ≡ unresolved_for (value_of (bindings q) (comp at.name at.called))) stays.state (tells (comp at.name at.called) is_call sound.state.acyclic) in
     subst (Stands (moved w u c) (Now.Raising ball)) (ap (λ q. config (raising q) es) raised ∙ sym (apply-step s (comp at.name at.called) at.into b at.places w.store.now.state at.frames es at.level at.back_is))
-    (record { entries = store-changes after u es (popped-stands after back w.arenas.collected it.from (strict s b) es out two.1) stays; runs = raising_now })
+    (record { entries = store-changes after u es (stack-lies after es (popped-stands after back w.arenas.collected it.from (strict s b) es out two.1)) stays; runs = raising_now })
 
 pub source-missing : (node : Node) (a b c d e f : ℕ) (ps : List CorePred) → node ≡ Node.Apply a b c → node ≡ Node.Apply d e f → (slice_get ps a ≡ None → ⊥) → slice_get ps d ≡ None → ⊥
 source-missing node a b c d e f ps h k some none = some (ap (slice_get ps) (same-number node a b c d e f h k) ∙ none)

@@ -2,7 +2,6 @@
 use Rattle.std.proofs.Common.{◌≡◌, ℕ, zero, suc, ◌-◌, ◌≤◌, ◌<◌, List, [], Option, Some, None, length, refl, sym, ◌∙◌, ap, subst, arith}
 use Rattle.std.specs.Prelude.{slice_get}
 use Rattle.std.proofs.lemmas.Option.{slice_get_within}
-use Rattle.pi_core.specs.CoreTree.{PredTree}
 use Rattle.pi_terms.specs.Tree.{Tree}
 use Rattle.pi_terms.specs.Places.{Places}
 use Rattle.pi_constraints.specs.State.{State}
@@ -32,11 +31,8 @@ use Rattle.pi_engine_stands.proofs.AnswerStand.{Arrives, arrives}
 use Rattle.pi_engine_stands.proofs.LeaveStand.{LeftBy, level-behind}
 use Rattle.pi_engine_stands.proofs.EndsStand.{behind-level, second-runs, child-found, if-counts}
 use Rattle.pi_engine_stands.proofs.OpenStand.{OpenAt, nothing_at, strict_at, catch_at, open-at, back-length}
-
--- steps one after the other
-pub silently-then : (view : View) (preds : List PredTree) (names : List NameSlot) (c d e : Config) → SilentlyTo view preds names c d → SilentlyTo view preds names d e → SilentlyTo view preds names c e
-silently-then view preds names c d e already next = next
-silently-then view preds names c d e (one_more is rest) next = one_more is (silently-then view preds names _ d e rest next)
+use Rattle.pi_engine_stands.proofs.StacksLie.{stack-lies}
+use Rattle.pi_engine_stands.proofs.SettlesFirst.{silently-then}
 
 -- ---- a level whose goal has an answer, and which is left
 
@@ -161,7 +157,7 @@ not-makes w b i from place x kind s back es above fs e it is below named holds (
     let left : GoalLeft w b x.back.base at x.back.frame (not g) e k fs =
     goal-left w b i from at x (strict s back) (not g) es fs f e k it (level-entry w b i x es it) is below one own
     (subst (λ q. Holds w.store.now.terms w.arenas.blocks.slots (block_at w.loaded q x.back.base) e) (sym same) holds) in
-    record { entries = left.entries; runs = failing_now }
+    record { entries = stack-lies (moved w w.store b) _ left.entries; runs = failing_now }
 not-makes w b i from place x kind s back es above fs e it is below named holds (if_kind own one) = absurd cc
 not-makes w b i from place x kind s back es above fs e it is below named holds (guard_kind call over one) = absurd cc
 not-makes w b i from place x kind s back es above fs e it is below named holds (apply_kind own free args fit one) = absurd cc

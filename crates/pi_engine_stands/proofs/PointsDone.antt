@@ -28,8 +28,8 @@ use Rattle.pi_meaning.specs.Machine.Shape.{IsGood}
 use Rattle.pi_meaning.specs.Machine.Built.{AreOfRules}
 use Rattle.pi_meaning.specs.Machine.Leads.{Leads, IsAtEnd}
 use Rattle.pi_engine_stands.specs.Here.{Block, Here, AreHere, none_here, value_here, last_here, more_here, GoesOn, answers, gives, returns_to_end, more_of_block, returns_to}
-use Rattle.pi_engine_stands.specs.Stands.{tables_in, World, steps_of, NowIs, going_now, StackStands, Stands, StandsGoing, GoingIs}
-use Rattle.pi_engine_stands.specs.Makes.{SilentlyTo, already, one_more, GoesFrom, AnswersOpen}
+use Rattle.pi_engine_stands.specs.Stands.{tables_in, World, steps_of, NowIs, going_now, StackBelow, Stands, StandsGoing, GoingIs, settling_now}
+use Rattle.pi_engine_stands.specs.Makes.{SilentlyTo, already, GoesFrom, AnswersOpen}
 use Rattle.pi_engine_stands.specs.Answers.{AreNames, IsTold, AnswersQuery}
 use Rattle.pi_meaning.specs.Machine.Next.{Tells}
 use Rattle.pi_engine_stands.specs.Goes.{IsOther, Goes, IsSpent, TicksOn, AtGoal, IsSilent, PointIsDone}
@@ -37,16 +37,11 @@ use Rattle.pi_engine_code.proofs.CodeLemmas.{stands-within}
 use Rattle.pi_engine_stands.proofs.PointLemmas.{first-of}
 use Rattle.pi_engine_stands.proofs.FramesStand.{going-of}
 use Rattle.pi_engine_stands.proofs.GoalsGo.{is-at, unspent, silent-ticks}
-use Rattle.pi_meaning.proofs.Machine.LeadLemmas.{leads-none, leads-on, leads-silent, step-silent, step-answers, step-ends, good-silent, good-answer}
+use Rattle.pi_meaning.proofs.Machine.LeadLemmas.{leads-on, leads-silent, step-silent, step-answers, step-ends, good-silent, good-answer}
 use Rattle.pi_engine_stands.specs.Changes.{change}
+use Rattle.pi_engine_stands.proofs.SettlesFirst.{settles-first, silently-then, silently-leads}
 
 -- ---- silent steps in a row
-
-pub silently-leads : (v : View) (preds : List PredTree) (names : List NameSlot) (c d : Config) → AreOfRules preds → IsGood c → SilentlyTo v preds names c d → Leads v preds names [] c d × IsGood d
-silently-leads v preds names c _ rules good already = (leads-none v preds names c, good)
-silently-leads v preds names c d rules good (one_more {d = x} is rest) =
-    let more : Leads v preds names [] x d × IsGood d = silently-leads v preds names x d rules (good-silent v preds names c x good is) rest in
-    (leads-on v preds names [] [] c x d (leads-silent v preds names [] c c x (leads-none v preds names c) (step-silent v preds names c x rules good is)) more.0, more.1)
 
 pub silently-goes : {M : Type 0} (v : View) (names : List NameSlot) (after : World M) (now : Now) (c d : Config) → AreOfRules after.loaded.preds → IsGood c → SilentlyTo v after.loaded.preds names c d → Stands after now d → Goes v names [] after now c
 silently-goes v names after now c d rules good steps stands =
@@ -58,12 +53,16 @@ silently-goes v names after now c d rules good steps stands =
 pub record DoneThere {M : Type 0} (w : World M) (p : Point) (c : Config) : Type 0 where
   pub e : Places
   pub k : List Frame
-  pub is : c ≡ config (going no_goals e w.store.now.state k) c.stack
+  pub steps : (v : View) (names : List NameSlot) → SilentlyTo v w.loaded.preds names c (config (going no_goals e w.store.now.state k) c.stack)
   pub stands : StandsGoing w p no_goals e k c.stack
 
-done-in : {M : Type 0} (w : World M) (p : Point) (x : NowData) (es : List EntryData) → p.count ≡ 0 → StackStands w es → NowIs w (Now.Going p) x → DoneThere w p (config x es)
-done-in w p x es none entries (going_now {gs = no_goals} {e = e} {k = k} is) = record { e = e; k = k; is = refl; stands = record { entries = entries; runs = going_now is } }
+done-in : {M : Type 0} (w : World M) (p : Point) (x : NowData) (es : List EntryData) → p.count ≡ 0 → StackBelow w x es → NowIs w (Now.Going p) x → DoneThere w p (config x es)
+done-in w p x es none entries (going_now {gs = no_goals} {e = e} {k = k} is) = record { e = e; k = k; steps = λ v names. already; stands = record { entries = entries; runs = going_now is } }
 done-in w p x es none entries (going_now {gs = goal g gs} {e = e} {k = k} is) =
+    absurd (omega (arith, none, (first-of (tables_in w.loaded) (steps_of w.loaded) is.block p.place p.count g gs is.value is.last is.goals).some))
+done-in w p x es none entries (settling_now {before = before} {gs = no_goals} {e = e} {k = k} is settled) =
+    record { e = e; k = k; steps = λ v names. settles-first v w.loaded.preds names before w.store.now.state no_goals e k es settled; stands = record { entries = entries; runs = going_now is } }
+done-in w p x es none entries (settling_now {gs = goal g gs} {e = e} {k = k} is settled) =
     absurd (omega (arith, none, (first-of (tables_in w.loaded) (steps_of w.loaded) is.block p.place p.count g gs is.value is.last is.goals).some))
 
 pub done-there : {M : Type 0} (w : World M) (p : Point) (c : Config) → PointIsDone w p c → DoneThere w p c
@@ -96,7 +95,7 @@ from-done : {M : Type 0} (w after : World M) (p : Point) (v : View) (names : Lis
 from-done w after p v names c d now same is it steps stands =
     record {
       goes = silently-goes v names after now c d (subst (λ l. AreOfRules l.preds) same is.rules) is.good
-          (subst (λ l. SilentlyTo v l.preds names c d) same (subst (λ x. SilentlyTo v w.loaded.preds names x d) (sym it.is) steps)) stands;
+          (subst (λ l. SilentlyTo v l.preds names c d) same (silently-then v w.loaded.preds names c (config (going no_goals it.e w.store.now.state it.k) c.stack) d (it.steps v names) steps)) stands;
       unspent = λ mode b. unspent after mode b now d stands;
     }
 
@@ -125,7 +124,8 @@ query-told w after p v names c told is none no_level are answered_so =
     let it : DoneThere w p c = done-there w p c is in
     let to = answered_so v p it.e it.k c.stack it.stands is.none (frame-none w p c is none) no_level are in
     let leads : Leads v w.loaded.preds names [] c (config (going no_goals to.0.slots to.0.state []) c.stack) × IsGood (config (going no_goals to.0.slots to.0.state []) c.stack) =
-    silently-leads v w.loaded.preds names c _ is.rules is.good (subst (λ x. SilentlyTo v w.loaded.preds names x (config (going no_goals to.0.slots to.0.state []) c.stack)) (sym it.is) to.1) in
+    silently-leads v w.loaded.preds names c _ is.rules is.good
+    (silently-then v w.loaded.preds names c (config (going no_goals it.e w.store.now.state it.k) c.stack) (config (going no_goals to.0.slots to.0.state []) c.stack) (it.steps v names) to.1) in
     record { solution = to.0; leads = leads.0; good = leads.1; is = to.2 }
 
 pub query-answers : {M : Type 0} (w after : World M) (p : Point) (v : View) (names : List NameSlot) (c : Config) (a : Answer) → w.loaded ≡ after.loaded → PointIsDone w p c → frame_at w.arenas.frames p.frame ≡ None → w.arenas.level ≡ 0 → AreNames w.loaded.query_slots names →
@@ -174,6 +174,7 @@ step-in t steps b place n gs value last some (last_here {g = g} is) = get_some s
 step-in t steps b place n gs value last some (more_here {g = g} is rest) = get_some steps place (stands-within t steps place g is.stands)
 
 step-now : {M : Type 0} (w : World M) (p : Point) (x : NowData) → 0 < p.count → NowIs w (Now.Going p) x → (s : Step) × (slice_get (steps_of w.loaded) p.place ≡ Some s)
+step-now w p x some (settling_now {gs = gs} is none) = step-in (tables_in w.loaded) (steps_of w.loaded) is.block p.place p.count gs is.value is.last some is.goals
 step-now w p x some (going_now {gs = gs} is) = step-in (tables_in w.loaded) (steps_of w.loaded) is.block p.place p.count gs is.value is.last some is.goals
 
 pub step-there : {M : Type 0} (w : World M) (p : Point) (c : Config) → 0 < p.count → Stands w (Now.Going p) c → (s : Step) × (slice_get (steps_of w.loaded) p.place ≡ Some s)

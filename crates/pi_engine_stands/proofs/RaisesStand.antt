@@ -16,7 +16,7 @@ use Rattle.pi_meaning.specs.Machine.Configuration.{Entry as EntryData, choice, s
 use Rattle.pi_meaning.specs.Machine.Step.{silently, raise_step, below_left, Open, none_open, strict_open, newest_open}
 use Rattle.pi_meaning.specs.Machine.Shape.{open_level, IsBalanced}
 use Rattle.pi_engine_stands.specs.Here.{Here}
-use Rattle.pi_engine_stands.specs.Stands.{World, Loaded, entries_of, back_here, KindIs, rules_kind, facts_kind, branches_kind, once_kind, not_kind, if_kind, guard_kind, apply_kind, collect_kind, count_kind, catch_kind, exit_kind, IsAbove, StackIs, no_entries, entry_above, StackStands, raising_now}
+use Rattle.pi_engine_stands.specs.Stands.{World, Loaded, entries_of, back_here, KindIs, rules_kind, facts_kind, branches_kind, once_kind, not_kind, if_kind, guard_kind, apply_kind, collect_kind, count_kind, catch_kind, exit_kind, IsAbove, StackIs, no_entries, entry_above, StackLies, raising_now}
 use Rattle.pi_engine_stands.specs.Raises.{IsDropped, collected_below}
 use Rattle.pi_engine_stands.specs.Fails.{ComesTo}
 use Rattle.pi_terms.proofs.ListLemmas.{take-take}
@@ -29,9 +29,9 @@ use Rattle.pi_meaning.proofs.Machine.EndSteps.{IsMatched, left-matched}
 -- ---- entries that are dropped
 
 -- the first so many entries stand for the rest of the stack, once those behind them are dropped
-pub dropped : {M : Type 0} (w : World M) (c : List Tree) (b : ArenasView M) (i from : ℕ) (x : Entry M) (es fs : List EntryData) → StackStands w es → StackIs w i from fs → IsAbove w (entry_at (entries_of w) i) x →
+pub dropped : {M : Type 0} (w : World M) (c : List Tree) (b : ArenasView M) (i from : ℕ) (x : Entry M) (es fs : List EntryData) → StackLies w es → StackIs w i from fs → IsAbove w (entry_at (entries_of w) i) x →
     x.back.level ≡ open_level zero fs → i ≤ length (entries_of w) → from ≤ length w.arenas.collected → c ≡ take from w.arenas.collected → LeavesLevel (with_collected w.arenas c) b i x.back →
-    StackStands (moved w w.store b) fs
+    StackLies (moved w w.store b) fs
 dropped w c b i from x es fs stands below above level fit some values leaves =
     let a : ArenasView _ = with_collected w.arenas c in
     let w1 : World _ = moved w w.store a in
@@ -51,7 +51,6 @@ dropped w c b i from x es fs stands below above level fit some values leaves =
     let long : length b.entries ≡ i = ap length leaves.drops.entries ∙ length-take i (entries_of w) ∙ omega (arith, fit) in
     record {
       code = stands.code;
-      state = stands.state;
       tables = stands.tables;
       level = leaves.level ∙ level;
       kept = leaves.drops.kept ∙ ap (λ r. slots_kept_by (newest r)) (sym leaves.drops.entries);
@@ -80,7 +79,7 @@ gone l c h t base frame slots from to kind ball y fs drops (count_kind own one) 
 gone l c h t base frame slots from to kind ball y fs drops (catch_kind own stays one) = absurd drops
 gone l c h t base frame slots from to kind ball y fs drops (exit_kind one) = absurd drops
 
-raise-drops-in : {M : Type 0} (w : World M) (c : List Tree) (b : ArenasView M) (back : Back) (x : Entry M) (ball : Tree) (n top : ℕ) (es : List EntryData) → StackStands w es → newest (entries_of w) ≡ Some x → x.back ≡ back → IsDropped back.kind →
+raise-drops-in : {M : Type 0} (w : World M) (c : List Tree) (b : ArenasView M) (back : Back) (x : Entry M) (ball : Tree) (n top : ℕ) (es : List EntryData) → StackLies w es → newest (entries_of w) ≡ Some x → x.back ≡ back → IsDropped back.kind →
     c ≡ take (collected_below back.kind (length w.arenas.collected)) w.arenas.collected → LeavesLevel (with_collected w.arenas c) b (length (entries_of w) - 1) back → length (entries_of w) ≡ n → top ≡ length w.arenas.collected → StackIs w n top es →
     ComesTo (moved w w.store b) (Now.Raising ball) (raise_step ball es)
 raise-drops-in w c b back x ball n top es stands at back_is drops values leaves count all no_entries = absurd (none-some refl (sym (ap (entry_at (entries_of w)) count) ∙ at))
@@ -97,7 +96,7 @@ raise-drops-in w c b back x ball n top es stands at back_is drops values leaves 
       runs = raising_now;
     })
 
-pub raise-drops : {M : Type 0} (w : World M) (c : List Tree) (b : ArenasView M) (back : Back) (x : Entry M) (ball : Tree) (es : List EntryData) → StackStands w es → newest (entries_of w) ≡ Some x → x.back ≡ back → IsDropped back.kind →
+pub raise-drops : {M : Type 0} (w : World M) (c : List Tree) (b : ArenasView M) (back : Back) (x : Entry M) (ball : Tree) (es : List EntryData) → StackLies w es → newest (entries_of w) ≡ Some x → x.back ≡ back → IsDropped back.kind →
     c ≡ take (collected_below back.kind (length w.arenas.collected)) w.arenas.collected → LeavesLevel (with_collected w.arenas c) b (length (entries_of w) - 1) back →
     ComesTo (moved w w.store b) (Now.Raising ball) (raise_step ball es)
 raise-drops w c b back x ball es stands at back_is drops values leaves =
@@ -191,7 +190,7 @@ left-found-in w back x ball n top es at back_is named balanced count all (entry_
     (subst (λ q. LeftCatch w q ball (left ∷ fs)) (sym number)
     (left-in w (open_level zero fs) from ball fs (newest_open zero fs) refl (left-matched zero fs more) (exit.1 ∙ all) (open-at w m from zero fs below (balanced-less zero fs more))))
 
-pub left-found : {M : Type 0} (w : World M) (back : Back) (x : Entry M) (ball : Tree) (es : List EntryData) → StackStands w es → newest (entries_of w) ≡ Some x → x.back ≡ back → back.kind ≡ Kind.Exit → IsBalanced zero es →
+pub left-found : {M : Type 0} (w : World M) (back : Back) (x : Entry M) (ball : Tree) (es : List EntryData) → StackLies w es → newest (entries_of w) ≡ Some x → x.back ≡ back → back.kind ≡ Kind.Exit → IsBalanced zero es →
     LeftCatch w back.level ball es
 left-found w back x ball es stands at back_is named balanced = left-found-in w back x ball (length (entries_of w)) (length w.arenas.collected) es at back_is named balanced refl refl stands.stack
 
@@ -199,7 +198,7 @@ left-found w back x ball es stands at back_is named balanced = left-found-in w b
 pub left-there : {M : Type 0} (w : World M) (number : ℕ) (ball : Tree) (es : List EntryData) → (it : LeftCatch w number ball es) → entry_at (entries_of w) number ≡ Some it.entry
 left-there w number ball es it = ap (entry_at (entries_of w)) it.is_number ∙ it.at
 
-pub left-passed : {M : Type 0} (w : World M) (b : ArenasView M) (number : ℕ) (z : Entry M) (ball : Tree) (es : List EntryData) → StackStands w es → (it : LeftCatch w number ball es) → entry_at (entries_of w) number ≡ Some z →
+pub left-passed : {M : Type 0} (w : World M) (b : ArenasView M) (number : ℕ) (z : Entry M) (ball : Tree) (es : List EntryData) → StackLies w es → (it : LeftCatch w number ball es) → entry_at (entries_of w) number ≡ Some z →
     LeavesLevel w.arenas b (number - 1) z.back → ComesTo (moved w w.store b) (Now.Raising ball) (raise_step ball es)
 left-passed w b number z ball es stands it at leaves =
     let same : it.entry ≡ z = one-some (entry_at (entries_of w) number) it.entry z (left-there w number ball es it) at in

@@ -4,7 +4,8 @@ use Rattle.std.specs.Prelude.{slice_get}
 use Rattle.std.proofs.lemmas.List.{length-drop, drop-drop, length-take-le}
 use Rattle.pi_terms.specs.Places.{Places}
 use Rattle.pi_constraints.specs.Store.{StoreView}
-use Rattle.pi_constraints.specs.State.{State, IsState}
+use Rattle.pi_constraints.specs.State.{State}
+use Rattle.pi_engine_stands.specs.Rests.{Rests}
 use Rattle.pi_core.specs.GoalTree.{no_goals, goal}
 use Rattle.pi_core.specs.CoreTree.{ClauseTree, leaves_others}
 use Rattle.pi_engine_arenas.specs.declared.arenas.Kind.{Kind}
@@ -111,7 +112,7 @@ rule-stands w v a p base frame number called c cs s k es all again predicate rul
     record {
       entries = record {
         code = code-keeps w.loaded.code (tables_in w.loaded) w.store.names v.names w.loaded.preds (λ i name has. after.passes.stays.keeps.names i name has) is.code;
-        state = subst IsState (sym after.passes.stays.state) is.state;
+        state = subst Rests (sym after.passes.stays.state) is.state;
         tables = λ i t has. keeps-terms w.store v after.passes.stays.keeps i t (is.tables i t has);
         level = after.passes.level ∙ is.level ∙ sym opens;
         kept = after.kept;

@@ -4,7 +4,8 @@ use Rattle.std.specs.Prelude.{slice_get, slice_set}
 use Rattle.std.proofs.lemmas.List.{take-set-le, drop-set-lt, length-set}
 use Rattle.pi_terms.specs.Tree.{Tree}
 use Rattle.pi_terms.specs.Places.{Places}
-use Rattle.pi_constraints.specs.State.{State, IsState}
+use Rattle.pi_constraints.specs.State.{State}
+use Rattle.pi_engine_stands.specs.Rests.{Rests}
 use Rattle.pi_constraints.specs.Store.{StoreView, Keeps, IsTerm}
 use Rattle.pi_core.specs.GoalTree.{GoalTree, no_goals}
 use Rattle.pi_constraints.specs.declared.store.Ref.{Ref}
@@ -47,7 +48,7 @@ slot-written b v w a new e k slot r x s at within holds keeps state term slots k
 -- the goals behind the level run, in the block with that slot
 pub given : {M : Type 0} (w : World M) (u : StoreView M) (new : BlocksView) (base place frame into first slot : ℕ) (step : Step) (r : Ref) (x : Tree) (s : State) (g : GoalTree) (e : Places) (k : List Frame) (es : List EntryData) → StackStands w es →
     (own : GoalStands w.loaded (now_here w) base place frame g e k) → Agrees w w.arenas.level (now_here w) → slice_get (steps_of w.loaded) place ≡ Some step → into < (block_at w.loaded place base).count →
-    first ≡ slot_number base step.first_slot → slot ≡ slot_number first into → Keeps w.store u → u.now.state ≡ s → IsState s → IsTerm u r x → new.slots ≡ slice_set w.arenas.blocks.slots slot (Some r) → new.kept ≡ w.arenas.blocks.kept →
+    first ≡ slot_number base step.first_slot → slot ≡ slot_number first into → Keeps w.store u → u.now.state ≡ s → Rests s → IsTerm u r x → new.slots ≡ slice_set w.arenas.blocks.slots slot (Some r) → new.kept ≡ w.arenas.blocks.kept →
     KeepsBlocks w.arenas.blocks new → length w.arenas.blocks.slots ≤ 18446744073709551615 →
     Stands (moved w u (with_blocks w.arenas new)) (Now.Going (record { place = 0; count = 0; base = base; frame = frame })) (config (going no_goals (slice_set e into (Some x)) s k) es)
 given w u new base place frame into first slot step r x s g e k es stands own agrees at within begins is keeps state sound term slots kept stays most =
@@ -58,7 +59,7 @@ given w u new base place frame into first slot step r x s g e k es stands own ag
     let writes : Writes b (between w.store u w.arenas (with_blocks w.arenas new)) f s = slot-written b w.store u w.arenas new e into slot r x s there within own.behind.slots keeps state term slots kept stays in
     let it : GoalWritten (moved w u (with_blocks w.arenas new)) base place frame g f k = goal-written w u (with_blocks w.arenas new) base place frame g e f s k es stands own agrees writes in
     record {
-      entries = stack-moved w u (with_blocks w.arenas new) b f s es writes (subst IsState (sym state) sound) stands;
+      entries = stack-moved w u (with_blocks w.arenas new) b f s es writes (subst Rests (sym state) sound) stands;
       runs = subst (λ q. NowIs (moved w u (with_blocks w.arenas new)) (Now.Going (record { place = 0; count = 0; base = base; frame = frame })) (going no_goals f q k)) state
           (going_now (behind-level (moved w u (with_blocks w.arenas new)) base place frame g f k it.goal it.agrees));
     }

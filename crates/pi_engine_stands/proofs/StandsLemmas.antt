@@ -3,7 +3,8 @@ use Rattle.std.proofs.Common.{◌≡◌, ◌⊎◌, inl, inr, ℕ, zero, suc, �
 use Rattle.std.specs.Prelude.{slice_get}
 use Rattle.pi_terms.specs.Tree.{Tree}
 use Rattle.pi_constraints.specs.Store.{StoreView, IsGood, Terms, Extend}
-use Rattle.pi_constraints.specs.State.{State, IsState}
+use Rattle.pi_constraints.specs.State.{State}
+use Rattle.pi_engine_stands.specs.Rests.{Rests}
 use Rattle.pi_constraints.specs.declared.store.Ref.{Ref}
 use Rattle.pi_engine_arenas.specs.declared.arenas.Kind.{Kind}
 use Rattle.pi_engine_arenas.specs.declared.frames.Point.{Point}
@@ -187,7 +188,7 @@ entry-moves w s a n top j from to fs x y leaves fit some at is below =
     let order : from ≤ to = kind-order w.loaded w.arenas.collected (back_here w x) (w.store.at_mark x.mark).state x.back.base x.back.frame x.back.blocks.slots from to x.back.kind y is.kind in
     record {
       good = (leaves.marks j x (omega (arith, fit)) at is.good).0;
-      state = subst (λ o. IsState o.state) (sym mark) is.state;
+      state = subst (λ o. Rests o.state) (sym mark) is.state;
       tables = subst (λ o. Extend w.loaded.terms o.terms) (sym mark) is.tables;
       level = is.level;
       kept = (leaves.blocks j x (omega (arith, fit)) at is.kept).0;

@@ -16,7 +16,7 @@ use Rattle.pi_meaning.specs.Machine.Step.{step, with_tick}
 use Rattle.pi_meaning.proofs.Machine.LeadLemmas.{leads-none, step-ticks, good-tick}
 use Rattle.pi_engine_stands.specs.Stands.{World}
 use Rattle.pi_engine_stands.specs.Goes.{TicksUnless, Goes, TicksOn, AtGoal, GoalStops, PointStops, counting}
-use Rattle.pi_engine_stands.proofs.GoalsGo.{none-counted, CallThere, by-goal}
+use Rattle.pi_engine_stands.proofs.GoalsGo.{none-counted, CallThere, by-goal, at_goal, goal-first}
 use Rattle.pi_engine_stands.specs.Changes.{change}
 
 -- what holds whatever a result is holds where it is an error
@@ -44,9 +44,11 @@ pub call-stops : {M : Type 0} (w : World M) (p : Point) (s : Step) (c : Config) 
 call-stops w p s c v names true mode old new x y is there_it ticks = none-on v names mode old new w c ticks.1 is.good
 call-stops w p s c v names false mode old new x y is there_it ticks =
     let next : Config = there_it.next in
-    let steps : step v w.loaded.preds names c ≡ with_tick next = by-goal w p c v names there_it.it ∙ there_it.comes in
-    record {
-      goes = subst (λ k. Goes v names (some_ticks k) w (Now.Ended RunEnd.Memory) c) (sym ticks.0)
-          (record { comes = next; leads = step-ticks v w.loaded.preds names c next is.rules is.good steps; good = good-tick v w.loaded.preds names c next is.good steps; is = tt });
+    let d : Config = at_goal w p c there_it.it in
+    let steps : step v w.loaded.preds names d ≡ with_tick next = by-goal w p c v names there_it.it ∙ there_it.comes in
+    goal-first w w p c v names mode old new (Now.Ended RunEnd.Memory) refl is.rules is.good there_it.it
+    (λ good. record {
+      goes = subst (λ k. Goes v names (some_ticks k) w (Now.Ended RunEnd.Memory) d) (sym ticks.0)
+          (record { comes = next; leads = step-ticks v w.loaded.preds names d next is.rules good steps; good = good-tick v w.loaded.preds names d next good steps; is = tt });
       spent = tt;
-    }
+    })

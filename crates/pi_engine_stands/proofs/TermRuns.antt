@@ -4,7 +4,7 @@ use Rattle.std.specs.Prelude.{slice_get, codes}
 use Rattle.pi_terms.specs.Tree.{Tree, Trees, trees_of, tree_count}
 use Rattle.pi_terms.specs.Places.{Places}
 use Rattle.pi_constraints.specs.Store.{StoreView, AreTerms, Terms}
-use Rattle.pi_constraints.specs.State.{IsState}
+use Rattle.pi_engine_stands.specs.Rests.{Rests}
 use Rattle.pi_constraints.specs.Evaluation.{EvaluatedAll, evaluated_all}
 use Rattle.pi_meaning.specs.Shared.View.{View}
 use Rattle.pi_meaning.specs.Shared.Names.{is_call}
@@ -35,14 +35,16 @@ use Rattle.pi_engine_stands.specs.Tries.{KeepsFront, KeepsBelow}
 use Rattle.pi_engine_stands.proofs.StandsLemmas.{moved}
 use Rattle.pi_engine_stands.proofs.BasesStand.{block-above, level-begins}
 use Rattle.pi_engine_stands.proofs.FramesStand.{MoreFrames, pushes-more, framed, with_new_frames, stack-framed, going-of, going-size, Entered, entered-behind}
-use Rattle.pi_engine_stands.proofs.EqualStands.{block_of, kind-of-node, stack-moved, going-moved, node-readable}
-use Rattle.pi_engine_stands.proofs.CallLemmas.{call-of, evaluated-all-state}
+use Rattle.pi_engine_stands.proofs.EqualStands.{block_of, kind-of-node, stack-moved, going-moved, node-readable, lies-moved}
+use Rattle.pi_engine_stands.proofs.CallLemmas.{call-of}
 use Rattle.pi_engine_stands.proofs.CallRuns.{all-count, GivesBack, said-last, room-of}
 use Rattle.pi_engine_stands.proofs.CallMade.{returning-some, arguments-added, Room, room-front, room-limit, front-more, Caller, frames-made, stack-below, level-below}
-use Rattle.pi_engine_stands.proofs.GoalsGo.{GoalThere, goal-there, unspent, silent-ticks, deeper-on, by-goal}
+use Rattle.pi_engine_stands.proofs.GoalsGo.{GoalThere, goal-there, unspent, silent-ticks, deeper-on, by-goal, at_goal, goal-first}
 use Rattle.pi_engine_stands.proofs.HeadsMatch.{front-then}
 use Rattle.pi_engine_stands.proofs.LevelSteps.{kept-within}
 use Rattle.pi_engine_stands.specs.Changes.{change}
+use Rattle.pi_engine_stands.proofs.RestLemmas.{evaluated-all-rests}
+use Rattle.pi_engine_stands.proofs.StacksLie.{stack-lies}
 
 -- ---- the goal
 
@@ -94,16 +96,18 @@ term-goes before after p s operands arity now mode b same node runs v fits names
     let next : Config = config (term_next before operands arity it.gs it.e it.k) c.stack in
     let form : goal_step v before.loaded.preds it.g it.e before.store.now.state (with_rest it.gs it.k c.stack) ≡ deeper next = term-form before p s operands arity v it.g it.gs it.e it.k c.stack node is.at it.stands in
     let stands : Stands after now next = subst (StandsAfter after now) form (runs v it.g it.gs it.e it.k c.stack is.at it.stands) in
-    silent-ticks v names mode b after now c
-    (deeper-on v names after now c next (subst (λ l. AreOfRules l.preds) same is.rules) is.good (ap (λ l. step v l.preds names c) (sym same) ∙ by-goal before p c v names it ∙ form) stands)
-    (unspent after mode b now next stands)
+    let d : Config = at_goal before p c it in
+    goal-first before after p c v names mode b b now same is.rules is.good it
+    (λ good. silent-ticks v names mode b after now d
+    (deeper-on v names after now d next (subst (λ l. AreOfRules l.preds) same is.rules) good (ap (λ l. step v l.preds names d) (sym same) ∙ by-goal before p c v names it ∙ form) stands)
+    (unspent after mode b now next stands))
 
 -- what can be said of the arguments once they were evaluated
 pub record TermReads {M : Type 0} (w : World M) (p : Point) (g : GoalTree) (gs : GoalTrees) (e : Places) (k : List Frame) (es : List EntryData) (stands : StandsGoing w p (goal g gs) e k es) (operands arity : ℕ) : Type 0 where
   pub readable : NodeIsReadable (tables_in w.loaded) (block_of w p g gs e k es stands) (Node.CallTerm operands arity)
   pub count : tree_count (term_arguments w operands arity e).trees ≡ arity
   pub some : 0 < arity
-  pub state : IsState (term_arguments w operands arity e).state
+  pub state : Rests (term_arguments w operands arity e).state
 
 pub term-reads : {M : Type 0} (w : World M) (p : Point) (s : Step) (g : GoalTree) (gs : GoalTrees) (e : Places) (k : List Frame) (es : List EntryData) (operands arity : ℕ) → s.node ≡ Node.CallTerm operands arity →
     slice_get (steps_of w.loaded) p.place ≡ Some s → (stands : StandsGoing w p (goal g gs) e k es) → TermReads w p g gs e k es stands operands arity
@@ -115,7 +119,7 @@ term-reads w p s g gs e k es operands arity node at stands =
       readable = reads;
       count = all-count T operands arity e w.store.now.state reads.0.0;
       some = one-at_least arity reads.1;
-      state = evaluated-all-state (trees_of (operand_trees T operands arity)) e w.store.now.state stands.entries.state;
+      state = evaluated-all-rests (trees_of (operand_trees T operands arity)) e w.store.now.state stands.entries.state;
     }
 
 -- ---- what can't be called
@@ -128,10 +132,10 @@ pub term-raises : {M : Type 0} (w : World M) (v : StoreView M) (a : ArenasView M
 term-raises w v a p s operands arity ball view g gs e k es node at stands writes raises =
     let is : GoingIs w p (goal g gs) e k = going-of w p (goal g gs) e w.store.now.state k stands.runs in
     let all : EvaluatedAll = term_arguments w operands arity e in
-    let state : IsState v.now.state = subst IsState (sym writes.state) (term-reads w p s g gs e k es operands arity node at stands).state in
+    let state : Rests v.now.state = subst Rests (sym writes.state) (term-reads w p s g gs e k es operands arity node at stands).state in
     term-step w (moved w v a) p s operands arity (Now.Raising ball) view g gs e k es node at stands
     (subst (λ n. Stands (moved w v a) (Now.Raising ball) (config n es)) (sym raises)
-    (record { entries = stack-moved w v a is.block all.slots all.state es writes state stands.entries; runs = raising_now }))
+    (record { entries = lies-moved w v a is.block all.slots all.state es writes (stack-lies w es stands.entries); runs = raising_now }))
 
 -- ---- a goal by a name
 
@@ -190,7 +194,7 @@ term-enters w v a fs c d rs p s operands arity n place it ts view g gs e k es no
     let T : Tables = tables_in w.loaded in
     let is : GoingIs w p (goal g gs) e k = going-of w p (goal g gs) e w.store.now.state k stands.runs in
     let all : EvaluatedAll = term_arguments w operands arity e in
-    let state : IsState v.now.state = subst IsState (sym writes.state) (term-reads w p s g gs e k es operands arity node at stands).state in
+    let state : Rests v.now.state = subst Rests (sym writes.state) (term-reads w p s g gs e k es operands arity node at stands).state in
     let w1 : World _ = moved w v a in
     let stack1 : StackStands w1 es = stack-moved w v a is.block all.slots all.state es writes state stands.entries in
     let going1 : GoingIs w1 p (goal g gs) all.slots k = going-moved w v a p (goal g gs) e all.slots all.state k es stands.entries is writes in

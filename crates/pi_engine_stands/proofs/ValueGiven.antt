@@ -34,9 +34,10 @@ use Rattle.pi_engine_stands.proofs.HereLemmas.{holds-moves}
 use Rattle.pi_engine_stands.proofs.StandsLemmas.{moved}
 use Rattle.pi_engine_stands.proofs.LeaveStand.{LeftBy, level-behind}
 use Rattle.pi_engine_stands.proofs.MissingStand.{AppliesAt, applies-at, Applied, applied}
-use Rattle.pi_engine_stands.proofs.OnceStand.{silently-then, GoalLeft, Found, found, answer-of}
+use Rattle.pi_engine_stands.proofs.OnceStand.{GoalLeft, Found, found, answer-of}
 use Rattle.pi_engine_stands.proofs.SlotsGiven.{given}
 use Rattle.pi_engine_stands.proofs.ValueRuns.{CallLevel, ValueRuns}
+use Rattle.pi_engine_stands.proofs.SettlesFirst.{silently-then}
 
 -- ---- what the code finds
 

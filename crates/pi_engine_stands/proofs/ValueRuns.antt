@@ -3,7 +3,8 @@ use Rattle.std.proofs.Common.{◌≡◌, ℕ, zero, suc, ◌<◌, Bool, true, Li
 use Rattle.std.specs.Prelude.{slice_get}
 use Rattle.pi_terms.specs.Tree.{Tree}
 use Rattle.pi_terms.specs.Places.{Places}
-use Rattle.pi_constraints.specs.State.{State, IsState}
+use Rattle.pi_constraints.specs.State.{State}
+use Rattle.pi_engine_stands.specs.Rests.{Rests}
 use Rattle.pi_constraints.specs.Store.{Terms, StoreView, IsTerm, Extend}
 use Rattle.pi_meaning.specs.Shared.View.{View}
 use Rattle.pi_core.specs.CoreTree.{PredTree}
@@ -26,16 +27,17 @@ use Rattle.pi_meaning.specs.Machine.Configuration.{Frame, give, Entry as EntryDa
 use Rattle.pi_meaning.specs.Machine.Step.{Open, step, silently, frame_step, newest_open}
 use Rattle.pi_meaning.specs.Machine.Shape.{IsBalanced, open_level}
 use Rattle.pi_engine_stands.specs.Here.{Block, Here, with_value, Holds, IsReadable, GoesOn, answers, gives, returns_to_end, more_of_block, returns_to, valued}
-use Rattle.pi_engine_stands.specs.Stands.{World, Loaded, tables_in, steps_of, entries_of, ends_of, entry_ends, level_ends, back_here, now_here, Agrees, KindIs, once_kind, not_kind, if_kind, guard_kind, apply_kind, collect_kind, count_kind, catch_kind, StackStands, NowIs, going_now, GoingIs}
+use Rattle.pi_engine_stands.specs.Stands.{World, Loaded, tables_in, steps_of, entries_of, ends_of, entry_ends, level_ends, back_here, now_here, Agrees, KindIs, once_kind, not_kind, if_kind, guard_kind, apply_kind, collect_kind, count_kind, catch_kind, StackStands, StackBelow, NowIs, going_now, GoingIs, settling_now}
 use Rattle.pi_engine_arenas.specs.Frames.{slot_number}
 use Rattle.pi_engine_stands.specs.Evaluates.{Evaluates}
 use Rattle.pi_engine_stands.specs.Goes.{AtGoal}
 use Rattle.pi_engine_stands.specs.Makes.{SilentlyTo, already, one_more}
 use Rattle.pi_engine_stands.proofs.StandsLemmas.{moved}
-use Rattle.pi_engine_stands.proofs.CallLemmas.{evaluated-state}
 use Rattle.pi_engine_stands.proofs.EqualStands.{node-readable, stack-moved, going-moved}
 use Rattle.pi_engine_stands.proofs.OpenStand.{OpenAt, nothing_at, strict_at, catch_at, open-at}
 use Rattle.pi_engine_stands.proofs.ValueHere.{ValueAt, value-at}
+use Rattle.pi_engine_stands.proofs.RestLemmas.{evaluated-rests}
+use Rattle.pi_engine_stands.proofs.SettlesFirst.{settles-first, silently-then}
 
 -- ---- the level that waits for the value
 
@@ -102,11 +104,11 @@ record ValueThere {M : Type 0} (w : World M) (p : Point) (s : Step) (operand : O
   pub value : ValueAt (tables_in w.loaded) runs.block s operand runs.value
   pub start : ℕ
   pub ends : level_ends w w.arenas.level ≡ with_value start
-  pub is : c ≡ config (going no_goals e w.store.now.state (give (Some (operand_tree (tables_in w.loaded) operand)) ∷ [])) es
+  pub steps : (v : View) (names : List NameSlot) → SilentlyTo v w.loaded.preds names c (config (going no_goals e w.store.now.state (give (Some (operand_tree (tables_in w.loaded) operand)) ∷ [])) es)
 
-value-in : {M : Type 0} (w : World M) (p : Point) (s : Step) (operand : Operand) (x : NowData) (es : List EntryData) → slice_get (steps_of w.loaded) p.place ≡ Some s → 0 < p.count → s.node ≡ Node.Value operand → StackStands w es → IsBalanced zero es →
-    NowIs w (Now.Going p) x → ValueThere w p s operand (config x es)
-value-in w p s operand x es at some node stands balanced (going_now {gs = no_goals} {e = e} {k = k} is) =
+value-by : {M : Type 0} (w : World M) (p : Point) (s : Step) (operand : Operand) (x : NowData) (es : List EntryData) (e : Places) (k : List Frame) → slice_get (steps_of w.loaded) p.place ≡ Some s → 0 < p.count → s.node ≡ Node.Value operand → StackStands w es → IsBalanced zero es →
+    GoingIs w p no_goals e k → ((v : View) (names : List NameSlot) → SilentlyTo v w.loaded.preds names (config x es) (config (going no_goals e w.store.now.state k) es)) → ValueThere w p s operand (config x es)
+value-by w p s operand x es e k at some node stands balanced is steps =
     let t : Tree = operand_tree (tables_in w.loaded) operand in
     let value : ValueAt (tables_in w.loaded) is.block s operand is.value = value-at (tables_in w.loaded) (steps_of w.loaded) is.block p.place p.count is.value is.last s operand is.goals some at node in
     let left : (is.behind.leaves ≡ true) × (is.rest ≡ []) = is.leaves.is_value t value.is in
@@ -121,9 +123,16 @@ value-in w p s operand x es at some node stands balanced (going_now {gs = no_goa
       value = value;
       start = waits.0;
       ends = waits.1;
-      is = ap (λ r. config (going no_goals e w.store.now.state r) es) (is.frames ∙ ap (λ v. valued v is.rest) value.is ∙ ap (λ r. give (Some t) ∷ r) left.1);
+      steps = λ v names. subst (λ r. SilentlyTo v w.loaded.preds names (config x es) (config (going no_goals e w.store.now.state r) es)) (is.frames ∙ ap (λ u. valued u is.rest) value.is ∙ ap (λ r. give (Some t) ∷ r) left.1) (steps v names);
     }
+
+value-in : {M : Type 0} (w : World M) (p : Point) (s : Step) (operand : Operand) (x : NowData) (es : List EntryData) → slice_get (steps_of w.loaded) p.place ≡ Some s → 0 < p.count → s.node ≡ Node.Value operand → StackBelow w x es → IsBalanced zero es →
+    NowIs w (Now.Going p) x → ValueThere w p s operand (config x es)
+value-in w p s operand x es at some node stands balanced (going_now {gs = no_goals} {e = e} {k = k} is) = value-by w p s operand x es e k at some node stands balanced is (λ v names. already)
 value-in w p s operand x es at some node stands balanced (going_now {gs = goal g gs} {e = e} {k = k} is) = absurd (node-readable w p s g gs e k (Node.Value operand) at is node)
+value-in w p s operand x es at some node stands balanced (settling_now {before = before} {gs = no_goals} {e = e} {k = k} is none) =
+    value-by w p s operand x es e k at some node stands balanced is (λ v names. settles-first v w.loaded.preds names before w.store.now.state no_goals e k es none)
+value-in w p s operand x es at some node stands balanced (settling_now {before = before} {gs = goal g gs} {e = e} {k = k} is none) = absurd (node-readable w p s g gs e k (Node.Value operand) at is node)
 
 value-there : {M : Type 0} (w : World M) (p : Point) (s : Step) (operand : Operand) (c : Config) → AtGoal w p s c → s.node ≡ Node.Value operand → ValueThere w p s operand c
 value-there w p s operand c is node = value-in w p s operand c.now c.stack is.at is.some node is.stands.entries is.good.balanced is.stands.runs
@@ -164,7 +173,7 @@ value-runs w v a p s operand code first r c is node is_code begins reads =
     let got : Evaluates b (between w.store v w.arenas a) x r =
     subst (λ q. IsReadable (tables_of w.loaded.terms q) b operand → Evaluates b (between w.store v w.arenas a) (evaluated (operand_tree (tables_of w.loaded.terms q) operand) it.e w.store.now.state) r) (sym is_code)
     (λ readable. reads w.loaded.terms b it.e starts readable it.stands.tables it.runs.behind.slots) it.value.readable in
-    let sound : IsState v.now.state = subst IsState (sym got.writes.state) (evaluated-state t it.e w.store.now.state it.stands.state) in
+    let sound : Rests v.now.state = subst Rests (sym got.writes.state) (evaluated-rests t it.e w.store.now.state it.stands.state) in
     let stands : StackStands after it.es = stack-moved w v a b x.slots x.state it.es got.writes sound it.stands in
     let runs : GoingIs after p no_goals x.slots it.k = going-moved w v a p no_goals it.e x.slots x.state it.k it.es it.stands it.runs got.writes in
     let ends : level_ends after after.arenas.level ≡ with_value it.start = subst (λ r. level_ends (moved w v r) r.level ≡ with_value it.start) (sym got.writes.rest) it.ends in
@@ -173,7 +182,7 @@ value-runs w v a p s operand code first r c is node is_code begins reads =
       es = it.es;
       silently = λ view names.
           subst (λ q. SilentlyTo view w.loaded.preds names c (config (going no_goals (Some x.tree ∷ []) q []) it.es)) (sym got.writes.state)
-          (subst (λ q. SilentlyTo view w.loaded.preds names q (config (going no_goals (Some x.tree ∷ []) x.state []) it.es)) (sym it.is)
+          (silently-then view w.loaded.preds names c (config (going no_goals it.e w.store.now.state (give (Some t) ∷ [])) it.es) (config (going no_goals (Some x.tree ∷ []) x.state []) it.es) (it.steps view names)
           (one_more (value-step view w.loaded.preds names t it.e w.store.now.state it.es) already));
       stands = stands;
       balanced = it.balanced;

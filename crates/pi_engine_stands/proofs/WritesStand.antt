@@ -1,7 +1,8 @@
 -- What a run stands for where slots of the present block are written and the store has more.
 use Rattle.std.proofs.Common.{◌≡◌, ℕ, zero, ◌+◌, ◌≤◌, Bool, List, Option, Some, None, length, take, refl, sym, ◌∙◌, subst, arith}
 use Rattle.pi_terms.specs.Places.{Places}
-use Rattle.pi_constraints.specs.State.{State, IsState}
+use Rattle.pi_constraints.specs.State.{State}
+use Rattle.pi_engine_stands.specs.Rests.{Rests}
 use Rattle.pi_constraints.specs.Store.{StoreView, Extend}
 use Rattle.pi_core.specs.GoalTree.{GoalTrees}
 use Rattle.pi_engine_arenas.specs.declared.frames.Point.{Point}
@@ -10,7 +11,7 @@ use Rattle.pi_engine_arenas.specs.Arenas.{entry_at, between}
 use Rattle.pi_engine_arenas.specs.declared.arenas.Entry.{Entry}
 use Rattle.pi_meaning.specs.Machine.Configuration.{Frame, Entry as EntryData}
 use Rattle.pi_engine_stands.specs.Here.{Block, ends_base, GoesOn}
-use Rattle.pi_engine_stands.specs.Stands.{tables_in, World, steps_of, entries_of, level_ends, now_here, back_here, Agrees, agrees_from, StackStands, GoingIs}
+use Rattle.pi_engine_stands.specs.Stands.{tables_in, World, steps_of, entries_of, level_ends, now_here, back_here, Agrees, agrees_from, StackLies, StackStands, GoingIs}
 use Rattle.pi_engine_stands.specs.Evaluates.{with_blocks, Writes}
 use Rattle.pi_engine_stands.proofs.HereLemmas.{take-agrees, goes_on-moves}
 use Rattle.pi_engine_stands.proofs.PointLemmas.{goes_on-within}
@@ -18,6 +19,7 @@ use Rattle.pi_engine_stands.proofs.ProgramStands.{code-keeps}
 use Rattle.pi_engine_stands.proofs.StandsLemmas.{moved, Leaves, stack-moves, stack-length, open_level-within, entry-below}
 use Rattle.pi_constraints.proofs.StateLemmas.{extends}
 use Rattle.pi_engine_stands.proofs.BasesStand.{block-above, level-begins}
+use Rattle.pi_engine_stands.proofs.StacksLie.{stack-lies, lies-stand}
 
 -- ---- a block that is written
 
@@ -40,18 +42,21 @@ writes-leave w v bs b f s n writes =
     }
 
 -- the entries stay
-pub stack-written : {M : Type 0} (w : World M) (v : StoreView M) (bs : BlocksView) (b : Block) (f : Places) (s : State) (es : List EntryData) → WritesTo w v bs b f s → IsState v.now.state →
-    StackStands w es → StackStands (written w v bs) es
-stack-written w v bs b f s es writes state is =
+pub lies-written : {M : Type 0} (w : World M) (v : StoreView M) (bs : BlocksView) (b : Block) (f : Places) (s : State) (es : List EntryData) → WritesTo w v bs b f s →
+    StackLies w es → StackLies (written w v bs) es
+lies-written w v bs b f s es writes is =
     record {
       code = code-keeps w.loaded.code (tables_in w.loaded) w.store.names v.names w.loaded.preds (λ i name has. writes.keeps.names i name has) is.code;
-      state = state;
       tables = λ i t has. writes.keeps.terms (record { number = i }) t (is.tables i t has);
       level = is.level;
       kept = writes.kept ∙ is.kept;
       stack = stack-moves w v (with_blocks w.arenas bs) (length (entries_of w)) (length w.arenas.collected) (length (entries_of w)) (length w.arenas.collected) es
           (writes-leave w v bs b f s (length (entries_of w)) writes) (omega arith) (omega arith) is.stack;
     }
+
+pub stack-written : {M : Type 0} (w : World M) (v : StoreView M) (bs : BlocksView) (b : Block) (f : Places) (s : State) (es : List EntryData) → WritesTo w v bs b f s → Rests v.now.state →
+    StackStands w es → StackStands (written w v bs) es
+stack-written w v bs b f s es writes state is = lies-stand (written w v bs) es (lies-written w v bs b f s es writes (stack-lies w es is)) state
 
 agrees-found : {M : Type 0} (w : World M) (v : StoreView M) (bs : BlocksView) (b : Block) (f : Places) (s : State) (r : Option (Entry M)) → WritesTo w v bs b f s →
     ((x : Entry M) → r ≡ Some x → back_here (written w v bs) x ≡ back_here w x) → ((x : Entry M) → r ≡ Some x → x.back.base ≤ b.base) →

@@ -8,7 +8,7 @@ use Rattle.pi_engine_arenas.specs.declared.arenas.Entry.{Entry}
 use Rattle.pi_engine_arenas.specs.declared.run.Now.{Now}
 use Rattle.pi_engine_arenas.specs.Arenas.{ArenasView, ReturnsToNewest, between}
 use Rattle.pi_meaning.specs.Machine.Configuration.{Entry as EntryData, choice, strict, catch_level, left, Config}
-use Rattle.pi_engine_stands.specs.Stands.{World, entries_of, back_here, KindIs, StackStands, Stands}
+use Rattle.pi_engine_stands.specs.Stands.{World, entries_of, back_here, KindIs, StackLies, Stands}
 
 -- the machine as data goes on from this state where it comes back to the entry: the one in which it was made. The mark that a
 -- `catch` was left goes on from none
@@ -37,5 +37,5 @@ EntriesKeepOneMark M =
 -- where the newest entry is come back to, the state is the one in which it was made
 abbrev pub ReturnsToTheMaking : Type 0 → Type 0
 ReturnsToTheMaking M =
-    (w : World M) (v : StoreView M) (b : ArenasView M) (back : Back) (y : EntryData) (es : List EntryData) → StackStands w (y ∷ es) →
+    (w : World M) (v : StoreView M) (b : ArenasView M) (back : Back) (y : EntryData) (es : List EntryData) → StackLies w (y ∷ es) →
     ReturnsToNewest w.order (between w.store v w.arenas b) back → IsMadeIn y v.now.state

@@ -1,6 +1,5 @@
 -- Goals that have no further answer: the newest entry is come back to, and says what is next.
 use Rattle.std.specs.Prelude.{◌≡◌, ℕ, suc, List, ◌∷◌, Some, length, slice_get}
-use Rattle.pi_constraints.specs.State.{IsState}
 use Rattle.pi_traces.specs.Trace.{End, Done, Raise}
 use Rattle.pi_engine_arenas.specs.declared.arenas.Back.{Back}
 use Rattle.pi_engine_arenas.specs.declared.run.End.{End as RunEnd}
@@ -8,9 +7,9 @@ use Rattle.pi_engine_arenas.specs.declared.run.Now.{Now}
 use Rattle.pi_engine_arenas.specs.Arenas.{entry_at, newest, slots_kept_by}
 use Rattle.pi_engine_arenas.specs.declared.arenas.Entry.{Entry}
 use Rattle.pi_meaning.specs.Machine.Configuration.{Entry as EntryData, choice, branches_left, Strict, strict, Back as BackData}
-use Rattle.pi_meaning.specs.Machine.Step.{Outcome, silently, with_tick, quietly, deeper, writing, answering, ending, branch, end_step, fail_step}
+use Rattle.pi_meaning.specs.Machine.Step.{Outcome, silently, with_tick, quietly, deeper, loading, writing, answering, ending, branch, end_step, fail_step}
 use Rattle.pi_core.specs.GoalTree.{GoalTrees}
-use Rattle.pi_engine_stands.specs.Stands.{World, tables_in, entries_of, now_here, back_here, IsCodeOf, EntryIs, StackIs, StackStands, Stands}
+use Rattle.pi_engine_stands.specs.Stands.{World, tables_in, entries_of, now_here, back_here, IsCodeOf, EntryIs, StackIs, StackLies, Stands}
 use Rattle.pi_constraints.specs.Store.{Extend}
 use Rattle.pi_engine_stands.specs.Changes.{Change}
 
@@ -26,13 +25,14 @@ ComesTo w now (silently c) = Stands w now c
 ComesTo w now (with_tick c) = ⊥
 ComesTo w now (quietly c) = ⊥
 ComesTo w now (deeper c) = ⊥
+ComesTo w now (loading n c) = ⊥
 ComesTo w now (writing text c) = ⊥
 ComesTo w now (answering x c) = ⊥
 ComesTo w now (ending e) = IsEnded now e
 
 -- A step of a run: goals have no further answer, and the newest entry is next.
 abbrev pub Fails : {M : Type 0} → Change M → Type 0
-Fails made = (es : List EntryData) → StackStands made.before es → ComesTo made.after made.now (fail_step es)
+Fails made = (es : List EntryData) → StackLies made.before es → ComesTo made.after made.now (fail_step es)
 
 -- The newest entry, which waits for this, was come back to: what is there is what it brings back.
 pub record IsBack {M : Type 0} (w : World M) (back : Back) (y : EntryData) (es : List EntryData) : Type 0 where
@@ -49,7 +49,6 @@ pub record IsBack {M : Type 0} (w : World M) (back : Back) (y : EntryData) (es :
   pub level : w.arenas.level ≡ back.level
   pub kept : w.arenas.blocks.kept ≡ slots_kept_by (newest (entries_of w))
   pub code : IsCodeOf w.loaded.code (tables_in w.loaded) w.store.names w.loaded.preds
-  pub state : IsState w.store.now.state
   pub tables : Extend w.loaded.terms w.store.now.terms
 
 -- what is next of branches, with an entry for those that are left

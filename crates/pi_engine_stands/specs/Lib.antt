@@ -1,4 +1,5 @@
 pub mod Here
+pub mod Rests
 pub mod Evaluates
 pub mod Stands
 pub mod Changes

@@ -15,7 +15,7 @@ use Rattle.pi_engine_arenas.specs.declared.arenas.Kind.{Kind}
 use Rattle.pi_engine_arenas.specs.declared.arenas.Strict.{Strict}
 use Rattle.pi_engine_arenas.specs.declared.run.Now.{Now}
 use Rattle.pi_meaning.specs.Machine.Configuration.{Frame, Entry, Config, config, going, catch_level, behind}
-use Rattle.pi_meaning.specs.Machine.Step.{Outcome, silently, with_tick, quietly, writing, answering, ending, goal_step, step, inside, back_to, deeper, with_rest}
+use Rattle.pi_meaning.specs.Machine.Step.{Outcome, silently, with_tick, quietly, writing, answering, ending, goal_step, step, inside, back_to, deeper, with_rest, loading}
 use Rattle.pi_meaning.specs.Machine.Shape.{IsBalanced}
 use Rattle.pi_meaning.specs.declared.happening.Mode.{Mode}
 use Rattle.pi_engine_stands.specs.Stands.{World, steps_of, Stands, StandsGoing}
@@ -28,6 +28,7 @@ StandsAfter w now (silently c) = Stands w now c
 StandsAfter w now (with_tick c) = Stands w now c
 StandsAfter w now (quietly c) = Stands w now c
 StandsAfter w now (deeper c) = Stands w now c
+StandsAfter w now (loading n c) = ⊥
 StandsAfter w now (writing text c) = ⊥
 StandsAfter w now (answering x c) = ⊥
 StandsAfter w now (ending e) = ⊥

@@ -18,7 +18,7 @@ use Rattle.pi_engine_arenas.specs.declared.arenas.Entry.{Entry}
 use Rattle.pi_meaning.specs.Machine.Configuration.{Frame, Entry as EntryData}
 use Rattle.pi_meaning.specs.Machine.Step.{raise_step}
 use Rattle.pi_meaning.specs.Machine.Shape.{IsBalanced}
-use Rattle.pi_engine_stands.specs.Stands.{steps_of, entries_of, now_here, block_at, GoalStands, StackStands}
+use Rattle.pi_engine_stands.specs.Stands.{steps_of, entries_of, now_here, block_at, GoalStands, StackLies}
 use Rattle.pi_constraints.specs.Store.{Extend}
 use Rattle.pi_engine_stands.specs.Evaluates.{Writes}
 use Rattle.pi_engine_stands.specs.Fails.{ComesTo}
@@ -27,7 +27,7 @@ use Rattle.pi_engine_stands.specs.Changes.{Change}
 -- A step of a run: an exception is handed to the newest entry.
 abbrev pub Raises : {M : Type 0} → Now → Change M → Type 0
 Raises old made =
-    (ball : Tree) (es : List EntryData) → old ≡ Now.Raising ball → StackStands made.before es → IsBalanced zero es → ComesTo made.after made.now (raise_step ball es)
+    (ball : Tree) (es : List EntryData) → old ≡ Now.Raising ball → StackLies made.before es → IsBalanced zero es → ComesTo made.after made.now (raise_step ball es)
 
 -- the same where the newest entry comes back to this
 abbrev pub RaisesFrom : {M : Type 0} → Back → Now → Change M → Type 0

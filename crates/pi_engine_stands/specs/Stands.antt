@@ -5,7 +5,8 @@ use Rattle.pi_engine_code.specs.LaidRules.{IsTestOf}
 use Rattle.std.specs.Prelude.{◌≡◌, ◌≢◌, ◌↔◌, ℕ, zero, suc, ◌+◌, ◌-◌, ◌≤◌, Bool, true, false, List, [], ◌∷◌, Option, Some, None, length, map, take, drop, slice_get, AllPairs, IsTrue, IsSome, is_some, ⊤}
 use Rattle.pi_terms.specs.Tree.{Tree, Trees, comp}
 use Rattle.pi_terms.specs.Places.{Places}
-use Rattle.pi_constraints.specs.State.{State, IsState}
+use Rattle.pi_constraints.specs.State.{State}
+use Rattle.pi_engine_stands.specs.Rests.{Rests}
 use Rattle.pi_core.specs.GoalTree.{GoalTree, GoalTrees, count_goals, truth, apply, if_else, not, once, collect, count, catch, goal, no_goals}
 use Rattle.pi_terms.specs.PatternTree.{PatternTrees, no_patterns, pattern}
 use Rattle.pi_core.specs.CoreTree.{ClauseTree, PredTree, pred_tree, leaves_others}
@@ -34,7 +35,8 @@ use Rattle.pi_engine_arenas.specs.Arenas.{ArenasView, entry_at, newest, slots_ke
 use Rattle.pi_engine_arenas.specs.declared.arenas.Entry.{Entry}
 use Rattle.pi_engine_stands.specs.Here.{Block, block_end, Holds, HoldsArguments, IsHere, AreHere, AreBranches, valued, Ends, in_block, with_value, Here, LeftBehind, GoesOn}
 use Rattle.pi_meaning.specs.Machine.Shape.{open_level}
-use Rattle.pi_meaning.specs.Machine.Configuration.{Called, rules_left, facts_left, branches_left, once_level, not_level, if_level, guard_level, value_level, list_level, number_level, Frame, Entry as EntryData, choice, strict, catch_level, left, Now as NowData, going, telling, failed, raising, Config, config}
+use Rattle.pi_meaning.specs.Shared.Settle.{settlement}
+use Rattle.pi_meaning.specs.Machine.Configuration.{Called, rules_left, facts_left, branches_left, once_level, not_level, if_level, guard_level, value_level, list_level, number_level, Frame, Entry as EntryData, choice, strict, catch_level, left, Now as NowData, going, settling, telling, failed, raising, Config, config}
 use Rattle.pi_engine_arenas.specs.declared.run.Run.{Run}
 
 -- ---- programs in tables
@@ -280,7 +282,7 @@ IsAbove w (Some y) x = IsOlder y.back.blocks x.back.blocks × (y.back.frames ≤
 -- an entry, above those of a stack
 pub record EntryIs {M : Type 0} (w : World M) (es : List EntryData) (below : Option (Entry M)) (from to : ℕ) (x : Entry M) (y : EntryData) : Type 0 where
   pub good : IsGood w.store x.mark
-  pub state : IsState (w.store.at_mark x.mark).state
+  pub state : Rests (w.store.at_mark x.mark).state
   pub tables : Extend w.loaded.terms (w.store.at_mark x.mark).terms
   pub level : x.back.level ≡ open_level zero es
   pub kept : IsKept w.arenas.blocks x.back.blocks
@@ -308,25 +310,44 @@ pub record GoingIs {M : Type 0} (w : World M) (p : Point) (gs : GoalTrees) (e : 
   pub frames : k ≡ valued value rest
   pub agrees : Agrees w w.arenas.level (now_here w)
 
--- what runs
+-- What runs. A point whose goals are next also stands for a state that is settled first, where nothing is left to settle.
 pub data NowIs {M : Type 0} (w : World M) : Now → NowData → Type 0 where
   going_now : {p : Point} {gs : GoalTrees} {e : Places} {k : List Frame} → GoingIs w p gs e k → NowIs w (Now.Going p) (going gs e w.store.now.state k)
+  settling_now : {p : Point} {before : State} {gs : GoalTrees} {e : Places} {k : List Frame} → GoingIs w p gs e k → settlement before w.store.now.state ≡ record { load = 0; left = Some w.store.now.state } →
+      NowIs w (Now.Going p) (settling before w.store.now.state gs e k)
   telling_now : {told : Box Telling Global} {gs : GoalTrees} {e : Places} {k : List Frame} → GoingIs w told.value.point gs e k → NowIs w (Now.Telling told) (telling told.value.text gs e w.store.now.state k)
   failing_now : NowIs w Now.Failing failed
   raising_now : {ball : Tree} → NowIs w (Now.Raising ball) (raising ball)
 
--- a run's entries stand for a stack
-pub record StackStands {M : Type 0} (w : World M) (es : List EntryData) : Type 0 where
+-- a run's entries stand for a stack, whatever the state is that it has now
+pub record StackLies {M : Type 0} (w : World M) (es : List EntryData) : Type 0 where
   pub code : IsCodeOf w.loaded.code (tables_in w.loaded) w.store.names w.loaded.preds
-  pub state : IsState w.store.now.state
   pub tables : Extend w.loaded.terms w.store.now.terms
   pub level : w.arenas.level ≡ open_level zero es
   pub kept : w.arenas.blocks.kept ≡ slots_kept_by (newest (entries_of w))
   pub stack : StackIs w (length (entries_of w)) (length w.arenas.collected) es
 
+-- the same of a run whose state is one from which goals begin
+pub record StackStands {M : Type 0} (w : World M) (es : List EntryData) : Type 0 where
+  pub code : IsCodeOf w.loaded.code (tables_in w.loaded) w.store.names w.loaded.preds
+  pub state : Rests w.store.now.state
+  pub tables : Extend w.loaded.terms w.store.now.terms
+  pub level : w.arenas.level ≡ open_level zero es
+  pub kept : w.arenas.blocks.kept ≡ slots_kept_by (newest (entries_of w))
+  pub stack : StackIs w (length (entries_of w)) (length w.arenas.collected) es
+
+-- The stack below what runs. Where that goes on from an entry alone, nothing is asked of the present state: a unification that
+-- failed may have bound variables.
+abbrev pub StackBelow : {M : Type 0} → World M → NowData → List EntryData → Type 0
+StackBelow w failed es = StackLies w es
+StackBelow w (raising ball) es = StackLies w es
+StackBelow w (going gs e s k) es = StackStands w es
+StackBelow w (settling before s gs e k) es = StackStands w es
+StackBelow w (telling text gs e s k) es = StackStands w es
+
 -- a run stands for a configuration
 pub record Stands {M : Type 0} (w : World M) (now : Now) (c : Config) : Type 0 where
-  pub entries : StackStands w c.stack
+  pub entries : StackBelow w c.now c.stack
   pub runs : NowIs w now c.now
 
 -- the same of goals that run at a point, whatever it is that is noted to come next

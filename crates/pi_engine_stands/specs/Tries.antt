@@ -3,6 +3,7 @@ use Rattle.std.specs.Prelude.{◌≡◌, ℕ, suc, ◌+◌, ◌-◌, ◌≤◌, 
 use Rattle.pi_terms.specs.Tree.{Trees}
 use Rattle.pi_terms.specs.Places.{Places}
 use Rattle.pi_constraints.specs.State.{State, IsState, bindings}
+use Rattle.pi_engine_stands.specs.Rests.{Rests}
 use Rattle.pi_constraints.specs.HeadMatch.{matched_all_in}
 use Rattle.pi_constraints.specs.declared.store.Ref.{Ref}
 use Rattle.pi_constraints.specs.declared.store.Cell.{Cell}
@@ -68,7 +69,7 @@ pub data HasEntry {M : Type 0} (w : World M) (p base frame from : ℕ) (called :
 -- frames.
 pub record CallIs {M : Type 0} (w : World M) (p base frame from : ℕ) (called : Called) (cs : List ClauseTree) (s : State) (k : List Frame) (es : List EntryData) (again : Bool) : Type 0 where
   pub code : IsCodeOf w.loaded.code (tables_in w.loaded) w.store.names w.loaded.preds
-  pub state : IsState w.store.now.state
+  pub state : Rests w.store.now.state
   pub tables : Extend w.loaded.terms w.store.now.terms
   pub level : w.arenas.level ≡ open_level 0 es
   pub kept : w.arenas.blocks.kept ≡ slots_kept_by (newest (entries_of w))
@@ -125,7 +126,7 @@ pub record ReturnsTo {M : Type 0} (a b : ArenasView M) (number : ℕ) (back : Ba
 -- was collected was collected below it.
 pub record GuardAnswers {M : Type 0} (w : World M) (level : ℕ) (back : Back) (p number : ℕ) (called : Called) (c : ClauseTree) (cs : List ClauseTree) (s : State) (k : List Frame) (below : List EntryData) (e : Places) : Type 0 where
   pub code : IsCodeOf w.loaded.code (tables_in w.loaded) w.store.names w.loaded.preds
-  pub state : IsState w.store.now.state
+  pub state : Rests w.store.now.state
   pub tables : Extend w.loaded.terms w.store.now.terms
   pub is_level : level ≡ suc (length below)
   pub within : level ≤ length (entries_of w)

@@ -37,12 +37,13 @@ use Rattle.pi_unify.specs.Domains.{occurring}
 use Rattle.pi_engine_stands.proofs.StandsLemmas.{moved}
 use Rattle.pi_meaning.proofs.Machine.StackLemmas.{number_of, newest-number}
 use Rattle.pi_terms.proofs.OptionLemmas.{none-some, same-some, not-less}
-use Rattle.pi_engine_stands.proofs.CallLemmas.{evaluated-state}
 use Rattle.pi_engine_stands.proofs.SlotsStand.{writes-none, writes-then}
-use Rattle.pi_engine_stands.proofs.EqualStands.{stack-moved}
+use Rattle.pi_engine_stands.proofs.EqualStands.{lies-moved}
 use Rattle.pi_engine_stands.proofs.AnswerStand.{Arrives, arrives}
 use Rattle.pi_engine_stands.specs.Changes.{change}
 use Rattle.pi_engine_arenas.specs.declared.run.Now.{Now}
+use Rattle.pi_constraints.proofs.KeepsLemmas.{new-keeps}
+use Rattle.pi_engine_stands.proofs.StacksLie.{stack-lies}
 
 -- ---- slots that are read one after the other
 
@@ -130,6 +131,15 @@ names-at n [] i x are at = absurd cc
 names-at n (y ∷ names) zero x are at = subst (λ (z : NameSlot). z.slot < n) (same-some at) are.0
 names-at n (y ∷ names) (suc i) x are at = names-at n names i x are.1 at
 
+-- a state stays one where a name's slot gets a variable
+slot-state : (o : Option Tree) (k : ℕ) (e : Places) (s : State) → IsState s → IsState (slot_term o k e s).state
+slot-state (Some t) k e s is = is
+slot-state None k e s is = new-keeps s is
+
+named-state : (k : ℕ) (e : Places) (s : State) → IsState s → IsState (evaluated (var k) e s).state
+unfolding evaluated
+named-state k e s is = slot-state (held e k) k e s is
+
 -- the first names are told; the others are left, in what is there then
 pub record TellsFirst {M : Type 0} (b : Block) (v w : StoreView M) (a c : ArenasView M) (names : List NameSlot) (e : Places) (i : ℕ) (values : List NamedTerm) : Type 0 where
   pub slots : Places
@@ -170,7 +180,7 @@ tells-more b v w u a c d names e i values new n x at state before one pushed =
     record {
       slots = y.slots;
       writes = writes-then b v w u a c d before.slots y.slots w.now.state u.now.state before.writes there;
-      state = subst IsState (sym now) (evaluated-state (var n.slot) before.slots w.now.state before.state);
+      state = subst IsState (sym now) (named-state n.slot before.slots w.now.state before.state);
       later = subst (λ q. IsLater v.now.state q e y.slots) (sym now) (later-read v.now.state w.now.state e before.slots n.slot before.later);
       all = ap (λ xs. xs ++ named_values (drop (i + 1) names) y.slots u.now.state) pushed
           ∙ ap (λ q. (values ++ x ∷ []) ++ named_values (drop (i + 1) names) y.slots q) now
@@ -217,7 +227,7 @@ query-told w u c names i answer p view e k es tells domains all stands none last
     let there : Arrives w view names (query_block w.loaded.query_slots) e k es = query-arrives w p view names e k es stands none last level in
     let f : Places = there.slots in
     let x : Solution = record { slots = f; state = w.store.now.state } in
-    let done : TellsFirst (query_block w.loaded.query_slots) w.store u w.arenas c names f i answer.values = tells w.loaded.query_slots f are there.holds stands.entries.state in
+    let done : TellsFirst (query_block w.loaded.query_slots) w.store u w.arenas c names f i answer.values = tells w.loaded.query_slots f are there.holds stands.entries.state.state in
     let nothing : drop i names ≡ [] = drop_all i names all in
     let values : answer.values ≡ named_values names f w.store.now.state =
     sym (append-nil answer.values) ∙ ap (λ ns. answer.values ++ named_values ns done.slots u.now.state) (sym nothing) ∙ done.all in
@@ -226,8 +236,8 @@ query-told w u c names i answer p view e k es tells domains all stands none last
       there.silently,
       (
         query-answer w view names f w.store.now.state es open_none ∙ ap (λ q. told_step q x es) (done.fit ∙ ap (λ ns. fits ns x) nothing),
-        told-whole names x u.now.state answer stands.entries.state.acyclic done.later.state values domains,
-        record { entries = stack-moved w u c (query_block w.loaded.query_slots) done.slots u.now.state es done.writes done.state stands.entries; runs = failing_now },
+        told-whole names x u.now.state answer stands.entries.state.state.acyclic done.later.state values domains,
+        record { entries = lies-moved w u c (query_block w.loaded.query_slots) done.slots u.now.state es done.writes (stack-lies w es stands.entries); runs = failing_now },
       ),
     )
 
@@ -242,9 +252,9 @@ query-raises w after u z c d names i values n ball p view e k es tells at one ra
     let f : Places = there.slots in
     let s : State = w.store.now.state in
     let x : Solution = record { slots = f; state = s } in
-    let done : TellsFirst b w.store u w.arenas c names f i values = tells w.loaded.query_slots f are there.holds stands.entries.state in
+    let done : TellsFirst b w.store u w.arenas c names f i values = tells w.loaded.query_slots f are there.holds stands.entries.state.state in
     let large : NamesValue b (between u z c d) n (evaluated (var n.slot) done.slots u.now.state) None = one b done.slots refl refl (names-at w.loaded.query_slots names i n are at) done.writes.holds done.state in
-    let many : most_cells < cells (slot_value n.slot f s) = subst (λ m. most_cells < m) (as-many s u.now.state n.slot f done.slots stands.entries.state.acyclic done.later) large.1 in
+    let many : most_cells < cells (slot_value n.slot f s) = subst (λ m. most_cells < m) (as-many s u.now.state n.slot f done.slots stands.entries.state.state.acyclic done.later) large.1 in
     let open_none : newest_open zero es ≡ none_open = no-open es (newest_open zero es) refl (newest-number zero es ∙ sym stands.entries.level ∙ level) in
     let not_fit : fits names x ≡ false = done.fit ∙ ap (λ ns. fits ns x) (drop-first names i n at) ∙ fits-not n (drop (i + 1) names) x many in (
       x,
@@ -264,7 +274,7 @@ name-read b v w a c n e slot r read found base first within holds state at reads
     let zero_is : 0 ≡ slot_number b.base b.first = omega (arith, base, first) in
     let got : Evaluates b (between v w a c) y r =
     subst (λ q. Evaluates b (between v w a c) q r) (sym (slot-is n.slot e v.now.state)) (reads b n.slot e (at ∙ ap (λ m. slot_number m n.slot) zero_is) within holds) in
-    let sound : IsState w.now.state = subst IsState (sym got.writes.state) (evaluated-state (var n.slot) e v.now.state state) in
+    let sound : IsState w.now.state = subst IsState (sym got.writes.state) (named-state n.slot e v.now.state state) in
     (got.writes, subst (λ q. IsNamed n (value (bindings q) y.tree) found) got.writes.state (names (value (bindings w.now.state) y.tree) (tells y.tree got.term sound.acyclic)))
 
 pub read-named : (n : NameSlot) (name : List ℕ) (read : Option Tree) (x t : Tree) → read ≡ Some x → name ≡ n.name → IsRead t read → IsNamed n t (Some (record { name = name; value = x }))

@@ -22,7 +22,7 @@ use Rattle.pi_engine_stands.specs.Fails.{ComesTo, IsBack}
 use Rattle.pi_terms.proofs.ListLemmas.{take-take}
 use Rattle.pi_terms.proofs.OptionLemmas.{one-some}
 use Rattle.pi_engine_stands.proofs.BasesStand.{block-above, level-begins}
-use Rattle.pi_engine_stands.proofs.BackStand.{back-agrees}
+use Rattle.pi_engine_stands.proofs.BackStand.{back-agrees, back-rests}
 use Rattle.pi_engine_stands.specs.Changes.{change}
 use Rattle.pi_engine_arenas.specs.Frames.{call_at}
 
@@ -41,7 +41,7 @@ again w back y es it p r called cs k none stands over =
     let level : w.arenas.level ≡ x.back.level = it.level ∙ ap (λ q. q.level) (sym it.back_is) in
     record {
       code = it.code;
-      state = it.state;
+      state = back-rests w back _ es it;
       tables = it.tables;
       level = level ∙ it.is.level;
       kept = it.kept;

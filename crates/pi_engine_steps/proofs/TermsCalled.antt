@@ -4,7 +4,8 @@ use Rattle.std.specs.Prelude.{slice_get, codes}
 use Rattle.pi_terms.specs.Tree.{Tree, Trees, no_trees, tree, tree_count}
 use Rattle.pi_terms.specs.Places.{Places}
 use Rattle.pi_constraints.specs.Value.{IsAcyclic}
-use Rattle.pi_constraints.specs.State.{IsState, bindings, followed}
+use Rattle.pi_constraints.specs.State.{bindings, followed}
+use Rattle.pi_engine_stands.specs.Rests.{Rests}
 use Rattle.pi_constraints.specs.Store.{StoreView, IsTerm, IsName, AreTerms}
 use Rattle.pi_constraints.specs.Evaluation.{EvaluatedAll}
 use Rattle.pi_constraints.specs.declared.store.Ref.{Ref}
@@ -53,7 +54,7 @@ pub record FirstRead {M : Type 0} (u : StoreView M) (all : EvaluatedAll) (rs : L
   pub more : Trees
   pub is : all.trees ≡ tree called more
   pub are : AreTerms u rs (tree called more)
-  pub state : IsState u.now.state
+  pub state : Rests u.now.state
 
 pub first-read : {M : Type 0} (w : World M) (u : StoreView M) (b : ArenasView M) (p : Point) (s : Step) (operands arity : ℕ) (rs : List Ref) (g : GoalTree) (gs : GoalTrees) (e : Places) (k : List Frame) (es : List EntryData) →
     s.node ≡ Node.CallTerm operands arity → slice_get (steps_of w.loaded) p.place ≡ Some s → (stands : StandsGoing w p (goal g gs) e k es) →
@@ -67,7 +68,7 @@ first-read w u b p s operands arity rs g gs e k es node at stands evaluates =
       more = first.1;
       is = first.2;
       are = subst (AreTerms u rs) first.2 evaluates.terms;
-      state = subst IsState (sym evaluates.writes.state) reads.state;
+      state = subst Rests (sym evaluates.writes.state) reads.state;
     }
 
 -- what is called, told of any terms that are there
@@ -92,8 +93,8 @@ not-callable w u b p s operands arity rs parts r name ball view g gs e k es node
     let t : Tree = read.called in
     let frames : List Frame = returning all.slots (behind gs k) in
     let nothing : called_by (followed (bindings u.now.state) t) (each_tree read.more) ≡ None =
-    subst (λ n. IsCalled u n parts (called_by (followed (bindings u.now.state) t) (each_tree read.more))) none (calls t read.more read.state.acyclic read.are) in
-    let raised : ball ≡ type_error (codes "callable") t u.now.state = told (type_error (codes "callable") t u.now.state) read.state.acyclic (t, first-is u rs r t read.more read.are first, refl) in
+    subst (λ n. IsCalled u n parts (called_by (followed (bindings u.now.state) t) (each_tree read.more))) none (calls t read.more read.state.state.acyclic read.are) in
+    let raised : ball ≡ type_error (codes "callable") t u.now.state = told (type_error (codes "callable") t u.now.state) read.state.state.acyclic (t, first-is u rs r t read.more read.are first, refl) in
     let next : first_now w.loaded.preds (tree t read.more) u.now.state frames ≡ raising ball = first-none w.loaded.preds t read.more u.now.state frames nothing ∙ ap raising (sym raised) in
     term-raises w u b p s operands arity ball view g gs e k es node at stands evaluates.writes
     (ap (λ ts. first_now w.loaded.preds ts all.state frames) read.is ∙ ap (λ x. first_now w.loaded.preds (tree t read.more) x frames) (sym evaluates.writes.state) ∙ next)
@@ -115,7 +116,7 @@ name-read u name n rs parts t ts is calls acyclic are =
     record { it = read.0; is = read.1; named = read.2; are = read.3; count = terms-count u parts read.0.args read.3 }
 
 stack-there : {M : Type 0} (w : World M) (u : StoreView M) (b : ArenasView M) (p : Point) (s : Step) (operands arity : ℕ) (rs : List Ref) (g : GoalTree) (gs : GoalTrees) (e : Places) (k : List Frame) (es : List EntryData) → (stands : StandsGoing w p (goal g gs) e k es) →
-    EvaluatesAll (block_of w p g gs e k es stands) (between w.store u w.arenas b) (term_arguments w operands arity e) rs → IsState u.now.state → StackStands (moved w u b) es
+    EvaluatesAll (block_of w p g gs e k es stands) (between w.store u w.arenas b) (term_arguments w operands arity e) rs → Rests u.now.state → StackStands (moved w u b) es
 stack-there w u b p s operands arity rs g gs e k es stands evaluates state =
     let all : EvaluatedAll = term_arguments w operands arity e in stack-moved w u b (block_of w p g gs e k es stands) all.slots all.state es evaluates.writes state stands.entries
 
@@ -128,7 +129,7 @@ not-found w u b p s operands arity rs parts name n ball view g gs e k es node at
     let read : FirstRead u all rs = first-read w u b p s operands arity rs g gs e k es node at stands evaluates in
     let t : Tree = read.called in
     let frames : List Frame = returning all.slots (behind gs k) in
-    let found : NameRead u n parts t read.more = name-read u name n rs parts t read.more some calls read.state.acyclic read.are in
+    let found : NameRead u n parts t read.more = name-read u name n rs parts t read.more some calls read.state.state.acyclic read.are in
     let stack : StackStands (moved w u b) es = stack-there w u b p s operands arity rs g gs e k es stands evaluates read.state in
     let missing : goal_called w.loaded.preds found.it.name (tree_count found.it.args) ≡ None =
     ap (goal_called w.loaded.preds found.it.name) (sym found.count) ∙ missing-called (moved w u b) n (length parts) found.it.name stack.code none found.named distinct in
@@ -150,7 +151,7 @@ found-runs w u b fs c d p s operands arity rs parts name n place frame view g gs
     let read : FirstRead u all rs = first-read w u b p s operands arity rs g gs e k es node at stands evaluates in
     let t : Tree = read.called in
     let frames : List Frame = returning all.slots (behind gs k) in
-    let found : NameRead u n parts t read.more = name-read u name n rs parts t read.more some calls read.state.acyclic read.are in
+    let found : NameRead u n parts t read.more = name-read u name n rs parts t read.more some calls read.state.state.acyclic read.are in
     let stack : StackStands (moved w u b) es = stack-there w u b p s operands arity rs g gs e k es stands evaluates read.state in
     let goal_is : FoundNamed (moved w u b) found.it.name (tree_count found.it.args) place =
     subst (λ m. FoundNamed (moved w u b) found.it.name m place) found.count (found-goal (moved w u b) n (length parts) place found.it.name stack.code there found.named) in

@@ -2,7 +2,7 @@ use Rattle.std.proofs.Common.{◌≡◌, ◌∙◌, ◌^◌, ◌+◌, ◌<◌, S
 use Rattle.std.specs.Prelude.{slice_index_or}
 use Rattle.pi_terms.specs.Tree.{trees_of}
 use Rattle.pi_constraints.specs.Evaluation.{evaluated_all}
-use Rattle.pi_constraints.specs.State.{IsState}
+use Rattle.pi_engine_stands.specs.Rests.{Rests}
 use Rattle.pi_constraints.specs.Store.{AreTerms}
 use Rattle.pi_effects.specs.BuiltIns.{built_in_function}
 use Rattle.pi_effects.specs.Results.{ShowsEffect}
@@ -15,12 +15,12 @@ use Rattle.pi_engine_stands.specs.Here.{AreReadable}
 use Rattle.pi_engine_stands.specs.Stands.{tables_in, world}
 use Rattle.pi_engine_stands.specs.Evaluates.{EvaluatesAll}
 use Rattle.pi_engine_stands.proofs.FramesStand.{going-of, going-size}
-use Rattle.pi_engine_stands.proofs.CallLemmas.{evaluated-all-state}
 use Rattle.pi_engine_stands.proofs.CallRuns.{args-count}
 use Rattle.pi_engine_stands.proofs.EqualStands.{first-slot-of, node-readable}
 use Rattle.pi_engine_stands.proofs.BuiltInStands.{all-many, value-there, value-step, refusal-step}
 use Rattle.pi_lib.proofs.RunLemmas.{terms-count, value-raised}
 use Rattle.pi_engine_steps.proofs.built_ins.apply_built_in.Goals as goal
+use Rattle.pi_engine_stands.proofs.RestLemmas.{evaluated-all-rests}
 
 pub returns-in_ok-set-in-Ok : goal.returns-in_ok-set-in-Ok
 returns-in_ok-set-in-Ok g c = λ name node l is_code view goal gs e k es at stands.
@@ -48,14 +48,14 @@ returns-in_ok-set-in-Ok g c = λ name node l is_code view goal gs e k es at stan
     let evaluates : EvaluatesAll b (between v v1 a a1) all rs =
     subst (λ t. EvaluatesAll b (between v v1 a a1) (evaluated_all (trees_of (operand_trees t first count)) e v.now.state) rs) (sym tables)
     (c.in_ok-take_arguments.ensures.ok l.terms b e begins (subst (λ t. AreReadable t b first count) tables readable.0) stands.entries.tables is.behind.slots) in
-    let state : IsState v1.now.state = subst IsState (sym evaluates.writes.state) (evaluated-all-state (trees_of args) e v.now.state stands.entries.state) in
+    let state : Rests v1.now.state = subst Rests (sym evaluates.writes.state) (evaluated-all-rests (trees_of args) e v.now.state stands.entries.state) in
     let many : length args ≡ count = args-count T first count readable.0.0 in
     let does = value-there word count f args e v.now.state many readable.1 in
     let terms : AreTerms v1 c.deref.result.now all.trees = subst (λ qs. AreTerms v1 qs all.trees) (sym c.deref.ensures.value) evaluates.terms in
     let long : length c.deref.result.now ≡ function_arity f = ap length c.deref.ensures.value ∙ terms-count v1 rs all.trees evaluates.terms ∙ all-many args e v.now.state count many ∙ sym readable.1.takes in
     let done : built_in_function (function_name f) all.trees v1.now.state ≡ Some does.0 =
     ap (λ x. built_in_function (function_name f) all.trees x) evaluates.writes.state ∙ sym (readable.1.same all.trees all.state (all-many args e v.now.state count many)) ∙ does.1 in
-    let shows : ShowsEffect v1 v2 (Ok c.in-Ok.made) does.0 = subst (λ r. ShowsEffect v1 v2 r does.0) c.in-Ok.is (c.call_function.ensures.shows all.trees does.0 state.acyclic terms long done) in
+    let shows : ShowsEffect v1 v2 (Ok c.in-Ok.made) does.0 = subst (λ r. ShowsEffect v1 v2 r does.0) c.in-Ok.is (c.call_function.ensures.shows all.trees does.0 state.state.acyclic terms long done) in
     let size = going-size w p s goal gs e k at is in
     let fit : p.place + s.size < 2 ^ 32 = omega (arith, size.0, size.1) in
     value-step w v1 v2 a1 c.set.new.self p c.behind.result s f name first count c.args.into c.first_slot-first.result c.slot_at.result rs c.in-Ok.made shows.0 shows.1 view goal gs e k es node at stands evaluates (does.1 ∙ ap Some shows.2) shows.3 readable.2 begins
@@ -87,13 +87,13 @@ returns-in_ok-ball-in-Err g c = λ name node l is_code view goal gs e k es at st
     let evaluates : EvaluatesAll b (between v v1 a a1) all rs =
     subst (λ t. EvaluatesAll b (between v v1 a a1) (evaluated_all (trees_of (operand_trees t first count)) e v.now.state) rs) (sym tables)
     (c.in_ok-take_arguments.ensures.ok l.terms b e begins (subst (λ t. AreReadable t b first count) tables readable.0) stands.entries.tables is.behind.slots) in
-    let state : IsState v1.now.state = subst IsState (sym evaluates.writes.state) (evaluated-all-state (trees_of args) e v.now.state stands.entries.state) in
+    let state : Rests v1.now.state = subst Rests (sym evaluates.writes.state) (evaluated-all-rests (trees_of args) e v.now.state stands.entries.state) in
     let many : length args ≡ count = args-count T first count readable.0.0 in
     let does = value-there word count f args e v.now.state many readable.1 in
     let terms : AreTerms v1 c.deref.result.now all.trees = subst (λ qs. AreTerms v1 qs all.trees) (sym c.deref.ensures.value) evaluates.terms in
     let long : length c.deref.result.now ≡ function_arity f = ap length c.deref.ensures.value ∙ terms-count v1 rs all.trees evaluates.terms ∙ all-many args e v.now.state count many ∙ sym readable.1.takes in
     let done : built_in_function (function_name f) all.trees v1.now.state ≡ Some does.0 =
     ap (λ x. built_in_function (function_name f) all.trees x) evaluates.writes.state ∙ sym (readable.1.same all.trees all.state (all-many args e v.now.state count many)) ∙ does.1 in
-    let shows : ShowsEffect v1 v2 (Err c.in-Err.stop) does.0 = subst (λ r. ShowsEffect v1 v2 r does.0) c.in-Err.is (c.call_function.ensures.shows all.trees does.0 state.acyclic terms long done) in
-    let told = value-raised v1 v2 c.in-Err.stop does.0 c.in_ok-ball-in-Err.ball state.acyclic shows c.in_ok-ball-in-Err.ensures in
+    let shows : ShowsEffect v1 v2 (Err c.in-Err.stop) does.0 = subst (λ r. ShowsEffect v1 v2 r does.0) c.in-Err.is (c.call_function.ensures.shows all.trees does.0 state.state.acyclic terms long done) in
+    let told = value-raised v1 v2 c.in-Err.stop does.0 c.in_ok-ball-in-Err.ball state.state.acyclic shows c.in_ok-ball-in-Err.ensures in
     refusal-step w v1 v2 a1 p s f name first count c.args.into rs c.in_ok-ball-in-Err.ball view goal gs e k es node at stands evaluates told.1 (does.1 ∙ ap Some told.0)

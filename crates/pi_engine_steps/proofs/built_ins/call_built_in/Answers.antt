@@ -2,7 +2,7 @@ use Rattle.std.proofs.Common.{◌≡◌, ◌∙◌, ◌^◌, ◌+◌, ◌<◌, s
 use Rattle.std.specs.Prelude.{slice_index_or}
 use Rattle.pi_terms.specs.Tree.{trees_of}
 use Rattle.pi_constraints.specs.Evaluation.{evaluated_all}
-use Rattle.pi_constraints.specs.State.{IsState}
+use Rattle.pi_engine_stands.specs.Rests.{Rests}
 use Rattle.pi_constraints.specs.Store.{AreTerms, Stays}
 use Rattle.pi_effects.specs.BuiltIns.{built_in_predicate}
 use Rattle.pi_lib_builtin.specs.Names.{takes, predicate_name}
@@ -15,12 +15,12 @@ use Rattle.pi_engine_stands.specs.Stands.{tables_in, world}
 use Rattle.pi_engine_stands.specs.Evaluates.{EvaluatesAll}
 use Rattle.pi_engine_stands.specs.Does.{ComesNext}
 use Rattle.pi_engine_stands.proofs.FramesStand.{going-of, going-size}
-use Rattle.pi_engine_stands.proofs.CallLemmas.{evaluated-all-state}
 use Rattle.pi_engine_stands.proofs.CallRuns.{args-count}
 use Rattle.pi_engine_stands.proofs.EqualStands.{first-slot-of, node-readable}
 use Rattle.pi_engine_stands.proofs.BuiltInStands.{all-many, effect-there, effect-step}
 use Rattle.pi_lib.proofs.RunLemmas.{terms-count}
 use Rattle.pi_engine_steps.proofs.built_ins.call_built_in.Goals as goal
+use Rattle.pi_engine_stands.proofs.RestLemmas.{evaluated-all-rests}
 
 pub returns : goal.returns
 returns g c = λ name node l is_code view fits goal gs e k es at stands.
@@ -47,7 +47,7 @@ returns g c = λ name node l is_code view fits goal gs e k es at stands.
     let evaluates : EvaluatesAll b (between v v1 a a1) all rs =
     subst (λ t. EvaluatesAll b (between v v1 a a1) (evaluated_all (trees_of (operand_trees t first count)) e v.now.state) rs) (sym tables)
     (c.in_ok-take_arguments.ensures.ok l.terms b e begins (subst (λ t. AreReadable t b first count) tables readable.0) stands.entries.tables is.behind.slots) in
-    let state : IsState v1.now.state = subst IsState (sym evaluates.writes.state) (evaluated-all-state (trees_of args) e v.now.state stands.entries.state) in
+    let state : Rests v1.now.state = subst Rests (sym evaluates.writes.state) (evaluated-all-rests (trees_of args) e v.now.state stands.entries.state) in
     let many : length args ≡ count = args-count T first count readable.0.0 in
     let does = effect-there word count c.args.predicate args e v.now.state many readable.1 in
     let terms : AreTerms v1 c.deref.result.now all.trees = subst (λ qs. AreTerms v1 qs all.trees) (sym c.deref.ensures.value) evaluates.terms in
@@ -55,8 +55,8 @@ returns g c = λ name node l is_code view fits goal gs e k es at stands.
     let done : built_in_predicate (predicate_name c.args.predicate) all.trees v1.now.state ≡ _ =
     ap (λ x. built_in_predicate (predicate_name c.args.predicate) all.trees x) evaluates.writes.state ∙ sym (readable.1.0.same all.trees all.state (all-many args e v.now.state count many)) ∙ does.1 in
     let stays : Stays v1 v2 = c.call_predicate-outcome.ensures.stays readable.1.1 in
-    let shows = c.call_predicate-outcome.ensures.shows all.trees does.0 state terms (ap (takes c.args.predicate) long ∙ readable.1.0.takes) done in
+    let shows = c.call_predicate-outcome.ensures.shows all.trees does.0 state.state terms (ap (takes c.args.predicate) long ∙ readable.1.0.takes) done in
     let size = going-size w p s goal gs e k at is in
     let fit : p.place + s.size < 2 ^ 32 = omega (arith, size.0, size.1) in
-    let next = subst (λ q. ComesNext c.args.mode q does.0 v2.now.state c.in_ok-next.next) (c.behind.ensures fit) (c.in_ok-next.ensures v1 does.0 state shows) in
+    let next = subst (λ q. ComesNext c.args.mode q does.0 v2.now.state c.in_ok-next.next) (c.behind.ensures fit) (c.in_ok-next.ensures v1 does.0 state.state shows) in
     effect-step w v1 v2 a1 p s c.args.predicate name first count rs does.0 c.args.mode c.in_ok-next.next view goal gs e k es node at stands fits evaluates stays does.1 next

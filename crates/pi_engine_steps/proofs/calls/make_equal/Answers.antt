@@ -1,7 +1,7 @@
 use Rattle.std.proofs.Common.{◌≡◌, ◌+◌, ◌^◌, ◌<◌, ◌∙◌, sym, ap, subst, arith}
 use Rattle.std.specs.Prelude.{if◌then◌else◌}
 use Rattle.pi_constraints.specs.Evaluation.{evaluated}
-use Rattle.pi_constraints.specs.State.{IsState}
+use Rattle.pi_engine_stands.specs.Rests.{Rests}
 use Rattle.pi_constraints.specs.Store.{IsTerm}
 use Rattle.pi_constraints.specs.Unify.{unified}
 use Rattle.pi_unify.specs.Answers.{Answers}
@@ -15,10 +15,11 @@ use Rattle.pi_engine_stands.specs.Stands.{tables_in, world}
 use Rattle.pi_engine_stands.specs.Evaluates.{Evaluates}
 use Rattle.pi_engine_stands.proofs.FramesStand.{going-of, going-size}
 use Rattle.pi_constraints.proofs.StateLemmas.{extends}
-use Rattle.pi_engine_stands.proofs.CallLemmas.{evaluated-state}
 use Rattle.pi_engine_stands.proofs.EqualStands.{first-slot-of, node-readable, both-evaluated, equal-step, goes-on, fails}
 use Rattle.pi_engine_steps.proofs.calls.make_equal.Goals as goal
 use Rattle.pi_engine_steps.proofs.calls.make_equal.Goals.{then-one, else-one}
+use Rattle.pi_engine_stands.proofs.RestLemmas.{evaluated-rests}
+use Rattle.pi_constraints.specs.State.{IsState}
 
 pub returns : goal.returns
 returns g c = λ node l is_code view goal gs e k es at stands.
@@ -49,14 +50,14 @@ returns g c = λ node l is_code view goal gs e k es at stands.
     (c.in_ok-b.ensures.ok l.terms b x.slots first (subst (λ t. IsReadable t b c.args.right) tables readable.1)
     (λ n q has. extends v v1 one_is.writes.keeps n q (stands.entries.tables n q has)) one_is.writes.holds) in
     let both : Evaluates b (between v v2 a a2) y c.in_ok-b.b = both-evaluated b v v1 v2 a a1 a2 L R e c.in_ok-a.a c.in_ok-b.b one_is two_is in
-    let state : IsState v2.now.state = subst IsState (sym both.writes.state) (evaluated-state R x.slots x.state (evaluated-state L e v.now.state stands.entries.state)) in
+    let state : Rests v2.now.state = subst Rests (sym both.writes.state) (evaluated-rests R x.slots x.state (evaluated-rests L e v.now.state stands.entries.state)) in
     let here : IsTerm v2 c.in_ok-a.a x.tree = two_is.writes.keeps.terms c.in_ok-a.a x.tree one_is.term in
     let below = c.look-root.ensures.below in
     let answers : Answers (unified y.state x.tree y.tree) c.in_ok-one.one (g.S.StateStore.seen c.unify.new.s).now.state =
     subst (λ q. Answers (unified q x.tree y.tree) c.in_ok-one.one (g.S.StateStore.seen c.unify.new.s).now.state) both.writes.state
-    (c.in_ok-one.ensures.unifies x.tree y.tree state here both.term (below c.in_ok-a.a x.tree here) (below c.in_ok-b.b y.tree both.term)) in
+    (c.in_ok-one.ensures.unifies x.tree y.tree state.state here both.term (below c.in_ok-a.a x.tree here) (below c.in_ok-b.b y.tree both.term)) in
     let sound : IsState (g.S.StateStore.seen c.unify.new.s).now.state =
-    c.in_ok-one.ensures.state x.tree y.tree state here both.term (below c.in_ok-a.a x.tree here) (below c.in_ok-b.b y.tree both.term) in
+    c.in_ok-one.ensures.state x.tree y.tree state.state here both.term (below c.in_ok-a.a x.tree here) (below c.in_ok-b.b y.tree both.term) in
     let size = going-size w p s goal gs e k at is in
     let fits : p.place + s.size < 2 ^ 32 = omega (arith, size.0, size.1) in
     let next : c.if-one.next ≡ (if c.in_ok-one.one then Now.Going (point_behind p s) else Now.Failing) =

@@ -1,6 +1,7 @@
 use Rattle.std.proofs.Common.{◌≡◌, sym, ap, subst}
 use Rattle.pi_constraints.specs.Evaluation.{evaluated}
-use Rattle.pi_constraints.specs.State.{IsState, bindings}
+use Rattle.pi_constraints.specs.State.{bindings}
+use Rattle.pi_engine_stands.specs.Rests.{Rests}
 use Rattle.pi_constraints.specs.Value.{value}
 use Rattle.pi_engine_code.specs.declared.code.Node.{Node}
 use Rattle.pi_engine_arenas.specs.Arenas.{view_of, between}
@@ -11,9 +12,9 @@ use Rattle.pi_engine_stands.specs.Stands.{tables_in, world}
 use Rattle.pi_engine_arenas.specs.Frames.{slot_number}
 use Rattle.pi_engine_stands.specs.Evaluates.{Evaluates}
 use Rattle.pi_engine_stands.proofs.FramesStand.{going-of}
-use Rattle.pi_engine_stands.proofs.CallLemmas.{evaluated-state}
 use Rattle.pi_engine_stands.proofs.EqualStands.{first-slot-of, node-readable, throw-step}
 use Rattle.pi_engine_steps.proofs.raises.throw.Goals as goal
+use Rattle.pi_engine_stands.proofs.RestLemmas.{evaluated-rests}
 
 pub returns : goal.returns
 returns g c = λ node l is_code view goal gs e k es at stands.
@@ -35,6 +36,6 @@ returns g c = λ node l is_code view goal gs e k es at stands.
     let one : Evaluates b (between v v1 a a1) x q =
     subst (λ t. Evaluates b (between v v1 a a1) (evaluated (operand_tree t c.args.operand) e v.now.state) q) (sym tables)
     (c.in_ok-term.ensures.ok l.terms b e first (subst (λ t. IsReadable t b c.args.operand) tables readable) stands.entries.tables is.behind.slots) in
-    let state : IsState v1.now.state = subst IsState (sym one.writes.state) (evaluated-state (operand_tree T c.args.operand) e v.now.state stands.entries.state) in
-    let raised = subst (λ r. c.in_ok-ball.ball ≡ raised_for (value (bindings r) x.tree)) one.writes.state (c.in_ok-ball.ensures x.tree one.term state.acyclic) in
-    throw-step w v1 a1 p s c.args.operand q c.in_ok-ball.ball view goal gs e k es node at stands one state raised
+    let state : Rests v1.now.state = subst Rests (sym one.writes.state) (evaluated-rests (operand_tree T c.args.operand) e v.now.state stands.entries.state) in
+    let raised = subst (λ r. c.in_ok-ball.ball ≡ raised_for (value (bindings r) x.tree)) one.writes.state (c.in_ok-ball.ensures x.tree one.term state.state.acyclic) in
+    throw-step w v1 a1 p s c.args.operand q c.in_ok-ball.ball view goal gs e k es node at stands one raised
