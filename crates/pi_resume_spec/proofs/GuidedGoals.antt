@@ -12,9 +12,11 @@ use Rattle.pi_core.specs.CoreTree.{backtracks, find_pred, ClauseTree, PredTree, 
 use Rattle.pi_core.specs.declared.core_program.SlotWatch.{SlotWatch}
 use Rattle.pi_core.specs.declared.core_program.NameSlot.{NameSlot}
 use Rattle.pi_syntax.specs.declared.program.Mode.{Mode}
-use Rattle.pi_traces.specs.Trace.{Trace, end, Raise, Deep, Done, done, one, then, first}
+use Rattle.pi_traces.specs.Trace.{Trace, end, Raise, Deep, Done, done, one, then, first, answers}
 use Rattle.pi_traces.specs.Control.{negated, collected, counted}
-use Rattle.pi_meaning.specs.Shared.Settle.{settled, settled_from}
+use Rattle.pi_settling.specs.Settled.{loaded}
+use Rattle.pi_settling.specs.Settle.{answer_with}
+use Rattle.pi_meaning.specs.Shared.Settle.{settlement, settled, settled_from}
 use Rattle.pi_meaning.specs.Shared.Drain.{drained}
 use Rattle.pi_meaning.specs.Shared.Raise.{raised_with}
 use Rattle.pi_meaning.specs.Shared.Level.{Level, Applied, or_applied}
@@ -152,9 +154,18 @@ fine-counting act into p h =
     (one-counted (strict act p) (λ n. one (with_slot p into (int (pos n)))) (λ n. one-one (with_slot p into (int (pos n)))))
     (each-counted Fine (strict act p) (λ n. one (with_slot p into (int (pos n)))) (λ n. each-one Fine (with_slot p into (int (pos n))) h))
 
+one-loaded : (n : ℕ) (t : Trace State) → OneAtMost t → OneAtMost (loaded n t)
+unfolding loaded answers
+one-loaded zero t h = h
+one-loaded (suc n) t h = h
+
+one-left : (o : Option State) → OneAtMost (answer_with o)
+one-left None = one-end State Done
+one-left (Some r) = one-one r
+
 pub one-settled : (s r : State) → OneAtMost (settled s r)
 unfolding settled
-one-settled s r = one-one r
+one-settled s r = one-loaded (settlement s r).load (answer_with (settlement s r).left) (one-left (settlement s r).left)
 
 pub guided-settled : (s r : State) → Guided Any (simple (settled s r))
 guided-settled s r = any-guided (simple (settled s r)) (simple-guided (settled s r) (one-settled s r))

@@ -1,5 +1,5 @@
 -- Searches whose paths lead apart and each lead to their answers, with what holds of the answers: however goals are put together.
-use Rattle.std.specs.Prelude.{◌≡◌, ℕ, suc, ◌≤◌, ◌+◌, Bool, true, false, List, [], ◌∷◌, length, refl}
+use Rattle.std.specs.Prelude.{◌≡◌, ℕ, suc, Bool, true, false, List, [], ◌∷◌, length, refl}
 use Rattle.std.proofs.Common.{arith, sym, ap, subst, inl, inr}
 use Rattle.pi_terms.specs.Tree.{Tree}
 use Rattle.pi_traces.specs.Trace.{Trace, end, note, ans, End, Done, Raise, Abort, Miss, Deep, one, alt, then, first, answers}
@@ -44,32 +44,6 @@ few-more (ans x t) f = ap suc (few-more t f)
 
 pub one-renamed : {A B : Type 0} (t : Trace A) (f : A → B) → OneAtMost t → OneAtMost (then t (λ x. one (f x)))
 one-renamed t f h = let same = few-more t f in omega (arith, same)
-
-none-then : {A B : Type 0} (t : Trace A) (f : A → Trace B) → length (answers t) ≤ 0 → length (answers (then t f)) ≤ 0
-unfolding then answers
-none-then (end e) f h = omega arith
-none-then (note n t) f h = none-then t f h
-none-then (ans x t) f h = absurd (omega arith)
-
-few-alt : {A : Type 0} (t u : Trace A) → length (answers (alt t u)) ≤ length (answers t) + length (answers u)
-unfolding alt answers
-few-alt (end Done) u = omega arith
-few-alt (end (Raise ball)) u = omega arith
-few-alt (end (Abort ball)) u = omega arith
-few-alt (end (Miss c)) u = omega arith
-few-alt (end Deep) u = omega arith
-few-alt (note n t) u = few-alt t u
-few-alt (ans x t) u = let rest = few-alt t u in omega (arith, rest)
-
-pub one-then : {A B : Type 0} (t : Trace A) (f : A → Trace B) → OneAtMost t → ((x : A) → OneAtMost (f x)) → OneAtMost (then t f)
-unfolding then answers
-one-then (end e) f h all = omega arith
-one-then (note n t) f h all = one-then t f h all
-one-then (ans x t) f h all =
-    let parts = few-alt (f x) (then t f) in
-    let rest = none-then t f (omega arith) in
-    let this = all x in
-    omega (arith, parts, rest, this)
 
 pub one-first : {A : Type 0} (t : Trace A) → OneAtMost (first t)
 unfolding first answers

@@ -13,9 +13,8 @@ use Rattle.pi_effects.specs.Items.{each_tree}
 use Rattle.pi_effects.specs.BuiltIns.{built_in_predicate, built_in_function}
 use Rattle.pi_traces.specs.Trace.{Trace, end, End, Raise, Deep, Done, answers}
 use Rattle.pi_meaning.specs.Shared.View.{View}
-use Rattle.pi_meaning.specs.Shared.Settle.{settled}
 use Rattle.pi_meaning.specs.Shared.Within.{Within, a_query, a_body, is_body, resource_left}
-use Rattle.pi_meaning.specs.Shared.Builtin.{written, effect_trace, function_trace, settled_effect}
+use Rattle.pi_meaning.specs.Shared.Builtin.{written, function_trace, settled_effect}
 use Rattle.pi_meaning.specs.Shared.Level.{Applied}
 use Rattle.pi_meaning.specs.Shared.Names.{is_later_predicate, is_later_function, is_resource, is_planner, is_catch, is_call}
 use Rattle.pi_meaning.specs.Shared.Calls as over_levels
@@ -25,7 +24,7 @@ use Rattle.pi_resume_spec.specs.Resumed.{Search, simple, sequence, ticked}
 use Rattle.pi_resume_spec.specs.Searches.{SearchLevel, bottom, above, plain_level, searches_at, too_deep}
 use Rattle.pi_resume_spec.specs.ByName.{LaterSearches, is_solve, later_search, SearchSetting, plain_setting, built_in, given_later, predicate_given, predicate_called, handling, with_planner, known_called, Deeper, call_goal, catch_called, again_called, name_called, term_called, called_at_level, called_below, first_called, search_setting, all_names}
 use Rattle.pi_resume_spec.specs.LanguageLaws.{OneAtMost, IsGuided, IsGuidedLevel, IsLater}
-use Rattle.pi_resume_spec.proofs.GuidedLemmas.{Guided, one-then, one-one, one-end, simple-guided, guided-sequence, guided-catch, guided-ticked}
+use Rattle.pi_resume_spec.proofs.GuidedLemmas.{Guided, one-one, one-end, simple-guided, guided-sequence, guided-catch, guided-ticked}
 use Rattle.pi_resume_spec.proofs.GuidedGoals.{OptionGuided, OptionOne, AreOffered, Any, any-guided, guided-at, or-guided, one-settled, guided-handled}
 
 if-guided : (test : Bool) (t u : Search State) → IsGuided t → IsGuided u → IsGuided (cond test t u)
@@ -42,15 +41,15 @@ unfolding answers
 one-written true text s = one-end State (Raise (atom (codes "output_in_plan")))
 one-written false text s = one-one s
 
-one-effect : (v : View) (e : Effect) → OneAtMost (effect_trace v e)
-one-effect v (Succeeds s) = one-one s
-one-effect v Fails = one-end State Done
-one-effect v (Writes text s) = one-written (is_body v.within) text s
-one-effect v (Raises ball) = one-end State (Raise ball)
+one-effect : (v : View) (s : State) (e : Effect) → OneAtMost (settled_effect v s e)
+one-effect v s (Succeeds r) = one-settled s r
+one-effect v s Fails = one-end State Done
+one-effect v s (Writes text r) = one-written (is_body v.within) text r
+one-effect v s (Raises ball) = one-end State (Raise ball)
 
 effect-guided : (v : View) (s : State) (o : Option Effect) → OptionGuided (option_map (λ e. simple (settled_effect v s e)) o)
 effect-guided v s None = tt
-effect-guided v s (Some e) = simple-guided (settled_effect v s e) (one-then (effect_trace v e) (settled s) (one-effect v e) (one-settled s))
+effect-guided v s (Some e) = simple-guided (settled_effect v s e) (one-effect v s e)
 
 or-option : (o p : Option (Search State)) → OptionGuided o → OptionGuided p → OptionGuided (option_or o p)
 or-option None p a b = b

@@ -15,7 +15,12 @@ use Rattle.pi_constraints.specs.Unify.{in_pairs, assigned, joined, outcome, unif
 use Rattle.pi_terms.specs.PatternTree.{PatternTree, slot, no_patterns, pattern}
 use Rattle.pi_core.specs.GoalTree.{GoalTree, truth, call, once, catch, no_goals, goal}
 use Rattle.pi_traces.specs.Control.{negated, chosen, collected, counted, caught}
-use Rattle.pi_meaning.specs.Shared.Settle.{settled}
+use Rattle.pi_settling.specs.Settle.{settlement as settlement_of_goal, stable_state, passes, runs_of}
+use Rattle.pi_settling.specs.Settled.{loaded}
+use Rattle.pi_settling.specs.Load.{count_due, same_domain}
+use Rattle.pi_settling.specs.Events.{events_from, variable_events}
+use Rattle.pi_settling.specs.Answers.{activations, activations_from}
+use Rattle.pi_meaning.specs.Shared.Settle.{settled, settlement, is_unchanged, are_unchanged}
 use Rattle.pi_meaning.specs.Shared.Drain.{drained}
 use Rattle.pi_constraints.specs.Evaluation.{evaluated, evaluated_all, with_new_variables}
 use Rattle.pi_constraints.specs.HeadMatch.{matched_in, matched_all_in}
@@ -81,11 +86,11 @@ abbrev query : GoalTree → ℕ → QueryTree
 query g slots = record { goal = g; helpers = []; names = []; slots = slots }
 
 unfoldable trace : List PredTree → GoalTree → ℕ → ℕ → List Step
-unfolding steps_of query_search search draining strictly calling applying collecting counting catching pred_search rule_searches quiet_search searches_of quiet_level search_level predicate_given predicate_called called_at_level first_called rules_ways choice_from rules_taken with_rest follows_then taken_from to_answer on_first to_exception with_handler resumed later_predicates is_later_predicate told find_pred built_in_predicate built_in_function tests comparing_tests kind_tests writing_predicates other_predicates reading_functions integer_functions collection_functions sorting_functions index_functions range_functions naming_functions text_functions making_functions done_by list_of_copies new_in_all with_new_variables then alt first chosen negated caught collected counted evaluated evaluated_all matched_in matched_all_in drained settled thrown exception_with raised_with copy occurrences firsts all_unified unified_for outcome assigned joined in_pairs most_pairs unbound_in cells_of_pairs cells value rounds instance followed followed_for order tree_count fits_modes fact_term fact_terms watch_trees function_given value_of written atom_text each_tree is_predicate has_line
+unfolding steps_of query_search search draining strictly calling applying collecting counting catching pred_search rule_searches quiet_search searches_of quiet_level search_level predicate_given predicate_called called_at_level first_called rules_ways choice_from rules_taken with_rest follows_then taken_from to_answer on_first to_exception with_handler resumed later_predicates is_later_predicate told find_pred built_in_predicate built_in_function tests comparing_tests kind_tests writing_predicates other_predicates reading_functions integer_functions collection_functions sorting_functions index_functions range_functions naming_functions text_functions making_functions done_by list_of_copies new_in_all with_new_variables then alt first chosen negated caught collected counted evaluated evaluated_all matched_in matched_all_in drained settled settlement is_unchanged are_unchanged settlement_of_goal stable_state passes runs_of loaded count_due same_domain events_from variable_events activations activations_from thrown exception_with raised_with copy occurrences firsts all_unified unified_for outcome assigned joined in_pairs most_pairs unbound_in cells_of_pairs cells value rounds instance followed followed_for order tree_count fits_modes fact_term fact_terms watch_trees function_given value_of written atom_text each_tree is_predicate has_line
 trace program g slots d = steps_of (query_search (all_names (query_view []) nothing_later program) program (query g slots) d).ways
 
 unfoldable from : List PredTree → GoalTree → ℕ → ℕ → List ℕ → List Step
-unfolding steps_of run_of query_search search draining strictly calling applying collecting counting catching pred_search rule_searches quiet_search searches_of quiet_level search_level predicate_given predicate_called called_at_level first_called rules_ways choice_from rules_taken with_rest follows_then taken_from to_answer on_first to_exception with_handler resumed later_predicates is_later_predicate told find_pred built_in_predicate built_in_function tests comparing_tests kind_tests writing_predicates other_predicates reading_functions integer_functions collection_functions sorting_functions index_functions range_functions naming_functions text_functions making_functions done_by list_of_copies new_in_all with_new_variables then alt first chosen negated caught collected counted evaluated evaluated_all matched_in matched_all_in drained settled thrown exception_with raised_with copy occurrences firsts all_unified unified_for outcome assigned joined in_pairs most_pairs unbound_in cells_of_pairs cells value rounds instance followed followed_for order tree_count fits_modes fact_term fact_terms watch_trees function_given value_of written atom_text each_tree is_predicate has_line
+unfolding steps_of run_of query_search search draining strictly calling applying collecting counting catching pred_search rule_searches quiet_search searches_of quiet_level search_level predicate_given predicate_called called_at_level first_called rules_ways choice_from rules_taken with_rest follows_then taken_from to_answer on_first to_exception with_handler resumed later_predicates is_later_predicate told find_pred built_in_predicate built_in_function tests comparing_tests kind_tests writing_predicates other_predicates reading_functions integer_functions collection_functions sorting_functions index_functions range_functions naming_functions text_functions making_functions done_by list_of_copies new_in_all with_new_variables then alt first chosen negated caught collected counted evaluated evaluated_all matched_in matched_all_in drained settled settlement is_unchanged are_unchanged settlement_of_goal stable_state passes runs_of loaded count_due same_domain events_from variable_events activations activations_from thrown exception_with raised_with copy occurrences firsts all_unified unified_for outcome assigned joined in_pairs most_pairs unbound_in cells_of_pairs cells value rounds instance followed followed_for order tree_count fits_modes fact_term fact_terms watch_trees function_given value_of written atom_text each_tree is_predicate has_line
 from program g slots d path = run_of (resumed_query (all_names (query_view []) nothing_later program) program (query g slots) d path)
 
 abbrev equal : Tree → Tree → GoalTree

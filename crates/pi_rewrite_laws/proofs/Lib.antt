@@ -20,6 +20,7 @@ pub mod RangeCalls
 pub mod RangeTurns
 pub mod RangeWalk
 pub mod StayLemmas
+pub mod SettlingStays
 pub mod CollectionLemmas
 pub mod IteratorLemmas
 pub mod GatherLemmas

@@ -1,14 +1,14 @@
 -- Goals with loops, worked out: at each of these depths the query that a goal is lowered to does what the goal does over its names.
-use Rattle.std.proofs.Common.{◌≡◌, ℕ, ◌+◌, true, List, [], ◌∷◌, ◌++◌, refl}
+use Rattle.std.proofs.Common.{◌≡◌, ℕ, ◌+◌, true, List, [], ◌∷◌, ◌++◌, refl, sym, ◌∙◌}
 use Rattle.std.specs.Prelude.{pos, false, codes, negsuc}
-use Rattle.pi_terms.specs.Tree.{tree_count, cells}
+use Rattle.pi_terms.specs.Tree.{Tree, var, int, tree_count, cells}
 use Rattle.pi_terms.specs.Order.{order}
 use Rattle.pi_terms.specs.Variables.{occurrences, firsts}
 use Rattle.pi_terms.specs.Substitution.{instance}
 use Rattle.pi_terms.specs.Copy.{copy}
 use Rattle.pi_terms.specs.ListCopies.{list_of_copies, new_in_all}
 use Rattle.pi_constraints.specs.Value.{rounds, value}
-use Rattle.pi_constraints.specs.State.{empty_state, followed_for, followed}
+use Rattle.pi_constraints.specs.State.{State, bound, empty_state, followed_for, followed}
 use Rattle.pi_constraints.specs.Unify.{in_pairs, assigned, joined, outcome, unified_for, unbound_in, cells_of_pairs, most_pairs, all_unified}
 use Rattle.pi_constraints.specs.Evaluation.{evaluated, evaluated_all, with_new_variables}
 use Rattle.pi_constraints.specs.HeadMatch.{matched_in, matched_all_in}
@@ -24,7 +24,7 @@ use Rattle.pi_syntax.specs.PrintAtom.{is_unquoted_atom, stands_bare, atom_text}
 use Rattle.pi_syntax.specs.PrintTerm.{is_characters, characters, written}
 use Rattle.pi_core.specs.CoreTree.{PredTree, QueryTree, find_pred}
 use Rattle.pi_effects.specs.Exception.{thrown, exception_with, type_error}
-use Rattle.pi_effects.specs.Items.{each_tree, list_onto, items_for, list_items}
+use Rattle.pi_effects.specs.Items.{each_tree, list_onto, list_of, items_for, list_items}
 use Rattle.pi_effects.specs.Rows.{done_by, has_line}
 use Rattle.pi_effects.specs.Integers.{integer_functions}
 use Rattle.pi_effects.specs.Comparing.{comparing_tests}
@@ -37,9 +37,14 @@ use Rattle.pi_effects.specs.Naming.{naming_functions}
 use Rattle.pi_effects.specs.Texts.{text_functions, writing_predicates}
 use Rattle.pi_effects.specs.Making.{making_functions}
 use Rattle.pi_effects.specs.BuiltIns.{reading_functions, built_in_function, tests, other_predicates, built_in_predicate, is_predicate}
-use Rattle.pi_traces.specs.Trace.{Trace, then, alt, first}
+use Rattle.pi_traces.specs.Trace.{Trace, note, Tick, one, then, alt, first}
 use Rattle.pi_traces.specs.Control.{negated, chosen, collected, counted, caught}
-use Rattle.pi_meaning.specs.Shared.Settle.{settled}
+use Rattle.pi_settling.specs.Settle.{settlement as settlement_of_goal, stable_state, passes, runs_of}
+use Rattle.pi_settling.specs.Settled.{loaded}
+use Rattle.pi_settling.specs.Load.{count_due, same_domain}
+use Rattle.pi_settling.specs.Events.{events_from, variable_events}
+use Rattle.pi_settling.specs.Answers.{activations, activations_from}
+use Rattle.pi_meaning.specs.Shared.Settle.{settled, settlement, is_unchanged, are_unchanged}
 use Rattle.pi_meaning.specs.Shared.Drain.{drained}
 use Rattle.pi_meaning.specs.Shared.Raise.{raised_with}
 use Rattle.pi_meaning.specs.OverNames.Environment.{meant}
@@ -83,14 +88,14 @@ own n = 126 ∷ (48 + n) ∷ []
 
 -- a goal that is asked of a program with no clauses
 unfoldable over_slots : ExpTree → ℕ → Trace Told
-unfolding query_from told named_values draining strictly calling applying collecting counting catching pred_run function_run calls_of level_at quiet_level rules find_pred meaning meaning_of_all list_of_copies new_in_all with_new_variables then alt first negated chosen collected counted caught evaluated evaluated_all matched_in matched_all_in drained settled thrown exception_with type_error raised_with copy occurrences firsts all_unified unified_for outcome assigned joined in_pairs most_pairs unbound_in cells_of_pairs cells value rounds instance followed followed_for order tree_count each_tree list_onto items_for list_items indexed values_by total operation power predicate_given predicate_called function_given function_called called_at_level first_called later_predicates is_later_predicate is_later_function done_by has_line integer_functions comparing_tests kind_tests collection_functions sorting_functions index_functions range_functions naming_functions text_functions writing_predicates making_functions reading_functions built_in_function tests other_predicates built_in_predicate is_predicate is_reserved is_unquoted_atom stands_bare atom_text is_characters characters written chars encode_utf8 digits slot_of named_slots slots_behind slot_term is_flat_as is_below slot_pattern made_as slot_goals_at slot_value_at slots_indexed_by items_onto form_of exp_count slots_from slots_head with_values closing closing_slots as_written kept_goals told_behind places behind core_query core_program clauses_of helpers_of grouped helpers_in following_sites helpers_at value_helpers places_all places_caught places_of_branches occurring occurring_all occurring_in_branches patterns_of assigned_names assigned_all assigned_in_branches prelude
+unfolding query_from told named_values draining strictly calling applying collecting counting catching pred_run function_run calls_of level_at quiet_level rules find_pred meaning meaning_of_all list_of_copies new_in_all with_new_variables then alt first negated chosen collected counted caught evaluated evaluated_all matched_in matched_all_in drained settled settlement is_unchanged are_unchanged settlement_of_goal stable_state passes runs_of loaded count_due same_domain events_from variable_events activations activations_from thrown exception_with type_error raised_with copy occurrences firsts all_unified unified_for outcome assigned joined in_pairs most_pairs unbound_in cells_of_pairs cells value rounds instance followed followed_for order tree_count each_tree list_onto items_for list_items indexed values_by total operation power predicate_given predicate_called function_given function_called called_at_level first_called later_predicates is_later_predicate is_later_function done_by has_line integer_functions comparing_tests kind_tests collection_functions sorting_functions index_functions range_functions naming_functions text_functions writing_predicates making_functions reading_functions built_in_function tests other_predicates built_in_predicate is_predicate is_reserved is_unquoted_atom stands_bare atom_text is_characters characters written chars encode_utf8 digits slot_of named_slots slots_behind slot_term is_flat_as is_below slot_pattern made_as slot_goals_at slot_value_at slots_indexed_by items_onto form_of exp_count slots_from slots_head with_values closing closing_slots as_written kept_goals told_behind places behind core_query core_program clauses_of helpers_of grouped helpers_in following_sites helpers_at value_helpers places_all places_caught places_of_branches occurring occurring_all occurring_in_branches patterns_of assigned_names assigned_all assigned_in_branches prelude
 over_slots goal d =
     let preds : List PredTree = core_program own [] in
     let q : QueryTree = core_query own goal in
     told_trace (solution_told q.names) (query_from (whole (query_view []) no_stages.calls (preds ++ q.helpers)) preds q d empty_state)
 
 unfoldable over_names : ExpTree → ℕ → Trace Told
-unfolding names_trace names_from told_behind told_values if_tellable then alt first negated chosen collected counted caught settled drained raised_with meant places places_caught places_all places_of_branches occurring occurring_all occurring_in_branches behind patterns_of assigned_names assigned_all assigned_in_branches with_value with_names items_onto written_term written_terms pattern_matched patterns_matched items_matched later_predicates is_later_predicate is_later_function predicate_given predicate_called function_given function_called called_at_level first_called names_draining names_strictly applied_to all_found all_counted called_with calling_term choosing denying taken_once names_catching goal_at value_at closed elements iterating turning while_turns do_turns comprehended form_of atom_goal readings operand_readings call_value range_value indexed_by value_of values_of values_in values_apart goals_in goal_of all_of any_of arrow_in branches_of units_of collection_of modes_named rules_called facts_called functions_called calls_by level_for prelude exp_count list_of_copies new_in_all built_in_function built_in_predicate is_predicate has_line tests comparing_tests kind_tests writing_predicates other_predicates reading_functions done_by integer_functions collection_functions sorting_functions index_functions range_functions naming_functions text_functions making_functions total indexed values_by each_tree list_onto items_for list_items thrown exception_with type_error tree_count cells order occurrences firsts instance copy rounds value followed_for followed in_pairs assigned joined outcome unified_for unbound_in cells_of_pairs most_pairs all_unified with_new_variables power operation is_reserved is_unquoted_atom stands_bare atom_text is_characters characters written chars encode_utf8 digits
+unfolding names_trace names_from told_behind told_values if_tellable then alt first negated chosen collected counted caught settled settlement is_unchanged are_unchanged settlement_of_goal stable_state passes runs_of loaded count_due same_domain events_from variable_events activations activations_from drained raised_with meant places places_caught places_all places_of_branches occurring occurring_all occurring_in_branches behind patterns_of assigned_names assigned_all assigned_in_branches with_value with_names items_onto written_term written_terms pattern_matched patterns_matched items_matched later_predicates is_later_predicate is_later_function predicate_given predicate_called function_given function_called called_at_level first_called names_draining names_strictly applied_to all_found all_counted called_with calling_term choosing denying taken_once names_catching goal_at value_at closed elements iterating turning while_turns do_turns comprehended form_of atom_goal readings operand_readings call_value range_value indexed_by value_of values_of values_in values_apart goals_in goal_of all_of any_of arrow_in branches_of units_of collection_of modes_named rules_called facts_called functions_called calls_by level_for prelude exp_count list_of_copies new_in_all built_in_function built_in_predicate is_predicate has_line tests comparing_tests kind_tests writing_predicates other_predicates reading_functions done_by integer_functions collection_functions sorting_functions index_functions range_functions naming_functions text_functions making_functions total indexed values_by each_tree list_onto items_for list_items thrown exception_with type_error tree_count cells order occurrences firsts instance copy rounds value followed_for followed in_pairs assigned joined outcome unified_for unbound_in cells_of_pairs most_pairs all_unified with_new_variables power operation is_reserved is_unquoted_atom stands_bare atom_text is_characters characters written chars encode_utf8 digits
 over_names goal d = told_trace (place_told (answer_names goal)) (names_trace (query_view []) no_stages [] goal d)
 
 -- at one depth; and at several, one of which no turn reaches
@@ -250,6 +255,30 @@ arrays-gather = (refl, refl, refl, refl)
 abbrev nested : ExpTree
 nested = equal X (collect false (collect false J (exps (goes_over J (items (I ∷ [])) ∷ []))) (exps (goes_over I (items (i 1 ∷ [])) ∷ [])))
 
-comprehensions-nest : Same nested 1 × Same nested 2
+-- what both do at a depth that its turns reach: two Ticks, and an answer with what X and the two loops gathered
+abbrev one_by_one : Tree
+one_by_one = list_of (int (pos 1) ∷ [])
+
+abbrev nested_state : State
+nested_state = record { variables = bound (list_of (var 2 ∷ [])) ∷ bound (list_of (var 2 ∷ [])) ∷ bound one_by_one ∷ []; constraints = []; agents = []; waiting = [] }
+
+abbrev nested_answer : Told
+nested_answer = record { values = record { name = codes "X"; value = list_of (one_by_one ∷ []) } ∷ []; state = nested_state }
+
+abbrev nested_trace : Trace Told
+nested_trace = note Tick (note Tick (one nested_answer))
+
+nested-over_slots : over_slots nested 2 ≡ nested_trace
+unfolding over_slots list_onto
+nested-over_slots = refl
+
+nested-over_names : over_names nested 2 ≡ nested_trace
+unfolding over_names list_onto
+nested-over_names = refl
+
+nested-cut_off : Same nested 1
 unfolding over_slots over_names
-comprehensions-nest = (refl, refl)
+nested-cut_off = refl
+
+comprehensions-nest : Same nested 1 × Same nested 2
+comprehensions-nest = (nested-cut_off, nested-over_slots ∙ sym nested-over_names)

@@ -21,6 +21,7 @@ use Rattle.pi_meaning.specs.CoreMeaning.Meaning.{Action, in_state, with_slot, dr
 use Rattle.pi_rewrite_laws.specs.Roots.{RootsStay, RootsStayIn, CallsKeepRoots, LevelKeepsRoots}
 use Rattle.pi_rewrite_laws.proofs.ElementLemmas.{roots-stay-itself}
 use Rattle.pi_rewrite_laws.proofs.StayLemmas.{roots-stay-then, new-variables-stay, new-stays}
+use Rattle.pi_rewrite_laws.proofs.SettlingStays.{settling-stays}
 
 -- what unification owes, in any state
 abbrev pub UnifyingKeepsRoots : Type 0
@@ -178,10 +179,10 @@ counting-keeps a into p h =
     each-counted (RootsBehind p) (strictly a p) (λ n. one (with_slot p into (int (pos n)))) (λ n. each-one (RootsBehind p) (with_slot p into (int (pos n))) (record { level = h; roots = roots-stay-itself p.state }))
 
 handled-keeps : (b : Action) → KeepsRoots b → (p : Point) → LevelKeepsRoots p.level → (raised : Tree) (o : Option State) → ((r : State) → o ≡ Some r → RootsStay p.state r) → EachAnswer (RootsBehind p) (handled_in p.state raised (λ r. b (in_state p r)) o)
-unfolding KeepsRoots EachAnswer settled
+unfolding KeepsRoots EachAnswer
 handled-keeps b x p h raised None stays = tt
 handled-keeps b x p h raised (Some s) stays =
-    each-then (RootsStay p.state) (RootsBehind p) (settled p.state s) (λ r. b (in_state p r)) (each-one (RootsStay p.state) s (stays s refl))
+    each-then (RootsStay p.state) (RootsBehind p) (settled p.state s) (λ r. b (in_state p r)) (settling-stays p.state p.state s (stays s refl))
     (λ r k. each-map (RootsBehind (in_state p r)) (RootsBehind p) (λ q m. behind-then p (in_state p r) q k m) (b (in_state p r)) (x (in_state p r) h))
 
 catching-keeps : UnifyingKeepsRoots → (a : Action) (ball : Tree) (b : Action) → KeepsRoots a → KeepsRoots b → KeepsRoots (catching a ball b)

@@ -13,8 +13,8 @@ use Rattle.pi_effects.specs.BuiltIns.{built_in_predicate, built_in_function, Onl
 use Rattle.pi_effects.specs.Items.{each_tree}
 use Rattle.pi_effects.proofs.BuiltInLemmas.{functions-make, predicates-unify}
 use Rattle.pi_core.specs.CoreTree.{PredTree}
-use Rattle.pi_traces.specs.Trace.{Trace, end, note, Deep, Tick, alt, then, answers}
-use Rattle.pi_traces.proofs.AnswerLemmas.{EachAnswer, each-map, each-one, each-then, each-caught}
+use Rattle.pi_traces.specs.Trace.{Trace, end, note, Deep, Tick, then, answers}
+use Rattle.pi_traces.proofs.AnswerLemmas.{EachAnswer, each-map, each-then, each-caught}
 use Rattle.pi_meaning.specs.Shared.Settle.{settled}
 use Rattle.pi_meaning.specs.Shared.View.{View}
 use Rattle.pi_meaning.specs.Shared.Level.{Level, lowest, over, calls_at, or_called, or_applied}
@@ -28,18 +28,19 @@ use Rattle.pi_meaning.specs.CoreMeaning.Instances.{core_setting, no_later, whole
 use Rattle.pi_rewrite_laws.specs.Roots.{RootsStay, RootsStayIn, LevelKeepsRoots, LaterKeepsRoots}
 use Rattle.pi_rewrite_laws.proofs.ElementLemmas.{roots-stay-itself}
 use Rattle.pi_rewrite_laws.proofs.StayLemmas.{roots-stay-then, new-variables-stay}
+use Rattle.pi_rewrite_laws.proofs.SettlingStays.{settling-stays}
 use Rattle.pi_rewrite_laws.proofs.RootGoals.{UnifyingKeepsRoots, each-of-all, calls-keep-roots, NamesKeepRoots}
 
 -- ---- built-ins
 
 effect-keeps : UnifyingKeepsRoots → (v : View) (s : State) (e : Effect) → OnlyUnifies s e → EachAnswer (RootsStay s) (settled_effect v s e)
-unfolding settled then alt EachAnswer
-effect-keeps u v s (Succeeds r) (inl same) = (subst (λ (q : State). RootsStay s q) (sym same) (roots-stay-itself s), tt)
-effect-keeps u v s (Succeeds r) (inr (t, w, is)) = (u s r t w is, tt)
+unfolding EachAnswer
+effect-keeps u v s (Succeeds r) (inl same) = settling-stays s s r (subst (λ (q : State). RootsStay s q) (sym same) (roots-stay-itself s))
+effect-keeps u v s (Succeeds r) (inr (t, w, is)) = settling-stays s s r (u s r t w is)
 effect-keeps u v s Fails is = tt
 effect-keeps u v s (Writes text r) same = go (is_body v.within)
   where
-    go : (b : Bool) → EachAnswer (RootsStay s) (then (written b text r) (settled s))
+    go : (b : Bool) → EachAnswer (RootsStay s) (written b text r)
     go true = tt
     go false = (subst (λ (q : State). RootsStay s q) (sym same) (roots-stay-itself s), tt)
 effect-keeps u v s (Raises ball) is = tt
@@ -98,9 +99,9 @@ goal-called : (l : Level) → LevelKeepsRoots l → (f : Deeper) → DeeperKeeps
 goal-called l h f keeps t more s = followed-by s ((calls_at l).drained s) (λ r. f t more r) ((calls-keep-roots l h).drained s) (λ r. keeps t more r)
 
 handled-keeps : (s : State) (raised : Tree) (f : State → Trace State) → ((r : State) → EachAnswer (RootsStay r) (f r)) → (o : Option State) → ((r : State) → o ≡ Some r → RootsStay s r) → EachAnswer (RootsStay s) (handled_in s raised f o)
-unfolding settled EachAnswer
+unfolding EachAnswer
 handled-keeps s raised f each None stays = tt
-handled-keeps s raised f each (Some r) stays = followed-by s (settled s r) f (each-one (RootsStay s) r (stays r refl)) each
+handled-keeps s raised f each (Some r) stays = followed-by s (settled s r) f (settling-stays s s r (stays r refl)) each
 
 catch-keeps : UnifyingKeepsRoots → (l : Level) → LevelKeepsRoots l → (f : Deeper) → DeeperKeeps f → (ts : Trees) (s : State) → EachAnswer (RootsStay s) (catch_called l f ts s)
 unfolding EachAnswer

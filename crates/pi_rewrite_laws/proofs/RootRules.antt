@@ -15,7 +15,7 @@ use Rattle.pi_core.specs.declared.core_program.SlotWatch.{SlotWatch}
 use Rattle.pi_syntax.specs.declared.program.Mode.{Mode}
 use Rattle.pi_traces.specs.Trace.{Trace, one, done}
 use Rattle.pi_traces.proofs.AnswerLemmas.{EachAnswer, each-map, each-one, each-alt, each-then, each-chosen}
-use Rattle.pi_meaning.specs.Shared.Settle.{settled, settled_from}
+use Rattle.pi_meaning.specs.Shared.Settle.{settled_from}
 use Rattle.pi_meaning.specs.Shared.Drain.{drained}
 use Rattle.pi_meaning.specs.Shared.Raise.{raised_with}
 use Rattle.pi_meaning.specs.Shared.Level.{Level, level_of, Calls, Applied, Point}
@@ -26,6 +26,7 @@ use Rattle.pi_meaning.specs.CoreMeaning.Rules.{guarded, chosen_rule, rule_before
 use Rattle.pi_rewrite_laws.specs.Roots.{RootsStay, RootsStayIn, CallsKeepRoots, LevelKeepsRoots}
 use Rattle.pi_rewrite_laws.proofs.ElementLemmas.{roots-stay-itself}
 use Rattle.pi_rewrite_laws.proofs.StayLemmas.{roots-stay-then, new-stays}
+use Rattle.pi_rewrite_laws.proofs.SettlingStays.{settling-stays}
 use Rattle.pi_rewrite_laws.proofs.RootGoals.{UnifyingKeepsRoots, all-of-each, NamesKeepRoots, RootsBehind, KeepsRoots, behind-itself, strictly-keeps, evaluation-stays, evaluations-stay, goal-keeps, goals-keep}
 use Rattle.pi_rewrite_spec.proofs.RunLemmas.{point, runs}
 use Rattle.pi_rewrite_laws.proofs.TurnLevels.{core_level}
@@ -81,9 +82,9 @@ mutual
       first-stays s (λ x. option_map (in_front x) (fact_terms ps x.slots x.state)) (λ x a. front-stays s x a (fact_terms ps x.slots x.state) (facts-stay u ps x.slots x.state)) (fact_term p e s) (fact-stays u p e s)
 
 settled-stays : (s before : State) (o : Option State) → ((r : State) → o ≡ Some r → RootsStay s r) → EachAnswer (RootsStay s) (settled_from before o)
-unfolding settled EachAnswer
+unfolding EachAnswer
 settled-stays s before None h = tt
-settled-stays s before (Some r) h = each-one (RootsStay s) r (h r refl)
+settled-stays s before (Some r) h = settling-stays s before r (h r refl)
 
 unified-head : UnifyingKeepsRoots → (s : State) (ts : Trees) (o : Option EvaluatedAll) → SomeAllStay s o → (r : State) → option_and_then (unified_with ts) o ≡ Some r → RootsStay s r
 unified-head u s ts None a r e = absurd cc

@@ -22,19 +22,19 @@ use Rattle.pi_effects.specs.Ranges.{range_functions}
 use Rattle.pi_effects.specs.Naming.{naming_functions}
 use Rattle.pi_effects.specs.Texts.{text_functions, writing_predicates}
 use Rattle.pi_effects.specs.BuiltIns.{reading_functions, built_in_function, tests, other_predicates, built_in_predicate, is_predicate, is_function, answer_in, test_in}
-use Rattle.pi_traces.specs.Trace.{one, then, alt, done}
-use Rattle.pi_meaning.specs.Shared.Settle.{settled}
+use Rattle.pi_traces.specs.Trace.{one, done}
 use Rattle.pi_meaning.specs.Shared.Level.{Level}
-use Rattle.pi_meaning.specs.Shared.Builtin.{effect_trace, function_trace}
+use Rattle.pi_meaning.specs.Shared.Builtin.{settled_effect, function_trace}
 use Rattle.pi_meaning.specs.Shared.Given.{Setting}
 use Rattle.pi_meaning.specs.Shared.Names.{is_given_predicate, is_later_predicate, is_given_function, is_resource, is_later_function}
 use Rattle.pi_meaning.specs.Shared.Calls.{predicate_given, predicate_called, function_given, function_called}
+use Rattle.pi_meaning.proofs.Shared.SettleLemmas.{settled-same}
 use Rattle.pi_rewrite_spec.proofs.BuiltInLemmas.{given-first, given-of, no-number, item-called}
 
 -- ---- `<`
 
 less-tested : (set : Setting) (m : Level) (t u : Tree) (s : State) →
-    predicate_called set m (codes "<") (tree t (tree u no_trees)) s ≡ then (effect_trace set.view (test_in s (integer_then s t (λ a. integer_then s u (λ c. Ok (int_lt a c)))))) (settled s)
+    predicate_called set m (codes "<") (tree t (tree u no_trees)) s ≡ settled_effect set.view s (test_in s (integer_then s t (λ a. integer_then s u (λ c. Ok (int_lt a c)))))
 unfolding predicate_called predicate_given built_in_predicate done_by tests comparing_tests kind_tests writing_predicates other_predicates
 less-tested set m t u s = refl
 
@@ -42,14 +42,13 @@ pub integers-there : {A : Type 0} (s : State) (a : ℤ) (f : ℤ → Answer A) �
 integers-there s a f = ap (λ (t : Tree). found_or (integer_at t) (type_error (codes "integer") (int a) s) f) (followed_other (bindings s) (int a) (no-number a))
 
 pub less-called : (set : Setting) (m : Level) (a c : ℤ) (s : State) → predicate_called set m (codes "<") (tree (int a) (tree (int c) no_trees)) s ≡ cond (int_lt a c) (one s) done
-unfolding settled then alt
 less-called set m a c s =
     less-tested set m (int a) (int c) s
-    ∙ ap (λ (x : Answer Bool). then (effect_trace set.view (test_in s x)) (settled s)) (integers-there s a (λ b. integer_then s (int c) (λ d. Ok (int_lt b d))) ∙ integers-there s c (λ d. Ok (int_lt a d)))
+    ∙ ap (λ (x : Answer Bool). settled_effect set.view s (test_in s x)) (integers-there s a (λ b. integer_then s (int c) (λ d. Ok (int_lt b d))) ∙ integers-there s c (λ d. Ok (int_lt a d)))
     ∙ go (int_lt a c)
   where
-    go : (b : Bool) → then (effect_trace set.view (test_in s (Ok b))) (settled s) ≡ cond b (one s) done
-    go true = refl
+    go : (b : Bool) → settled_effect set.view s (test_in s (Ok b)) ≡ cond b (one s) done
+    go true = settled-same s
     go false = refl
 
 less-given : is_predicate (codes "<") 2 ≡ true

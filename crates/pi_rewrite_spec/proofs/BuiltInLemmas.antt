@@ -21,13 +21,13 @@ use Rattle.pi_effects.specs.Ranges.{range_functions}
 use Rattle.pi_effects.specs.Naming.{naming_functions}
 use Rattle.pi_effects.specs.Texts.{text_functions, writing_predicates}
 use Rattle.pi_effects.specs.BuiltIns.{reading_functions, built_in_function, tests, other_predicates, built_in_predicate, is_predicate, is_function, answer_in}
-use Rattle.pi_traces.specs.Trace.{one, then, alt}
-use Rattle.pi_meaning.specs.Shared.Settle.{settled}
+use Rattle.pi_traces.specs.Trace.{one}
 use Rattle.pi_meaning.specs.Shared.Level.{Level}
-use Rattle.pi_meaning.specs.Shared.Builtin.{effect_trace, function_trace}
+use Rattle.pi_meaning.specs.Shared.Builtin.{settled_effect, function_trace}
 use Rattle.pi_meaning.specs.Shared.Given.{Setting}
 use Rattle.pi_meaning.specs.Shared.Names.{is_given_predicate, is_later_predicate, is_given_function, is_resource, is_later_function}
 use Rattle.pi_meaning.specs.Shared.Calls.{predicate_given, predicate_called, function_given, function_called}
+use Rattle.pi_meaning.proofs.Shared.SettleLemmas.{settled-same}
 
 -- ---- a new variable is one with itself
 
@@ -91,15 +91,15 @@ unified-new s = go (pairs-some (bindings (with_new s)) (var (next s)) (var (next
 -- ---- `=`
 
 pub equals-called : (set : Setting) (m : Level) (t u : Tree) (s : State) →
-    predicate_called set m (codes "=") (tree t (tree u no_trees)) s ≡ then (effect_trace set.view (succeeds_in (unified s t u))) (settled s)
+    predicate_called set m (codes "=") (tree t (tree u no_trees)) s ≡ settled_effect set.view s (succeeds_in (unified s t u))
 unfolding predicate_called predicate_given built_in_predicate done_by tests comparing_tests kind_tests writing_predicates other_predicates
 equals-called set m t u s = refl
 
 pub equals-itself : (set : Setting) (m : Level) (s : State) → predicate_called set m (codes "=") (tree (var (next s)) (tree (var (next s)) no_trees)) (with_new s) ≡ one (with_new s)
-unfolding settled then alt
 equals-itself set m s =
     equals-called set m (var (next s)) (var (next s)) (with_new s)
-    ∙ ap (λ (o : Option State). then (effect_trace set.view (succeeds_in o)) (settled (with_new s))) (unified-new s)
+    ∙ ap (λ (o : Option State). settled_effect set.view (with_new s) (succeeds_in o)) (unified-new s)
+    ∙ settled-same (with_new s)
 
 equals-given : is_predicate (codes "=") 2 ≡ true
 unfolding is_predicate has_line tests comparing_tests kind_tests writing_predicates other_predicates

@@ -13,10 +13,10 @@ use Rattle.pi_effects.specs.Inner.{in_order_name}
 use Rattle.pi_core.specs.GoalTree.{GoalTree}
 use Rattle.pi_traces.specs.Trace.{Trace, one, then}
 use Rattle.pi_traces.proofs.TraceLemmas.{then-assoc}
-use Rattle.pi_meaning.specs.Shared.Settle.{settled, settled_from}
+use Rattle.pi_meaning.specs.Shared.Settle.{settled_from}
 use Rattle.pi_meaning.specs.Shared.View.{View}
 use Rattle.pi_meaning.specs.Shared.Level.{Level, Applied, calls_at, Point}
-use Rattle.pi_meaning.specs.Shared.Builtin.{effect_trace}
+use Rattle.pi_meaning.specs.Shared.Builtin.{settled_effect}
 use Rattle.pi_meaning.specs.CoreMeaning.Builtins.{Builtins, predicate_by, function_by}
 use Rattle.pi_meaning.specs.Shared.Given.{Setting}
 use Rattle.pi_meaning.specs.CoreMeaning.Meaning.{calling, applying, meaning}
@@ -50,10 +50,9 @@ applied-runs b l drains name args vs into slots s x filled is =
 
 -- ---- one name
 
-settles : (v : View) (s : State) (o : Option State) → then (effect_trace v (succeeds_in o)) (settled s) ≡ settled_from s o
-unfolding then
+settles : (v : View) (s : State) (o : Option State) → settled_effect v s (succeeds_in o) ≡ settled_from s o
 settles v s None = refl
-settles v s (Some r) = then-of-one r (settled s)
+settles v s (Some r) = refl
 
 -- the equation of what stands in two slots
 equation-runs : (known : Knows) (set : Setting) (b : Builtins) (l m : Level) → Alike known set b l m → (j k : ℕ) (slots : Places) (s : State) (t u : Tree) → held slots j ≡ Some t → held slots k ≡ Some u →

@@ -29,7 +29,12 @@ use Rattle.pi_effects.specs.Making.{making_functions}
 use Rattle.pi_effects.specs.BuiltIns.{reading_functions, built_in_function, tests, other_predicates, built_in_predicate, is_predicate}
 use Rattle.pi_traces.specs.Trace.{Trace, end, note, Raise, Tick, Deep, one, done, then, alt}
 use Rattle.pi_traces.specs.Control.{chosen}
-use Rattle.pi_meaning.specs.Shared.Settle.{settled}
+use Rattle.pi_settling.specs.Settle.{settlement as settlement_of_goal, stable_state, passes, runs_of}
+use Rattle.pi_settling.specs.Settled.{loaded}
+use Rattle.pi_settling.specs.Load.{count_due, same_domain}
+use Rattle.pi_settling.specs.Events.{events_from, variable_events}
+use Rattle.pi_settling.specs.Answers.{activations, activations_from}
+use Rattle.pi_meaning.specs.Shared.Settle.{settled, settlement, is_unchanged, are_unchanged}
 use Rattle.pi_meaning.specs.Shared.Drain.{drained}
 use Rattle.pi_meaning.specs.Shared.View.{query_view, body_view}
 use Rattle.pi_meaning.specs.Shared.Names.{later_predicates, is_later_predicate, is_later_function}
@@ -74,7 +79,7 @@ is-by_rests = refl
 
 -- the trace of `action(a,_,_,_)` with this rest, at depth 1
 unfoldable action_with : ℕ → Trace Offer
-unfolding then alt chosen settled drained later_predicates is_later_predicate is_later_function predicate_given function_given draining strictly calling applying meaning meaning_of_all pred_run calls_of rules quiet_level level_at find_pred evaluated evaluated_all matched_in matched_all_in built_in_function built_in_predicate is_predicate has_line tests comparing_tests kind_tests writing_predicates other_predicates reading_functions done_by integer_functions collection_functions sorting_functions index_functions range_functions naming_functions text_functions making_functions tree_count cells order occurrences instance rounds value followed_for followed in_pairs assigned joined outcome unified_for unbound_in cells_of_pairs most_pairs all_unified
+unfolding then alt chosen settled settlement is_unchanged are_unchanged settlement_of_goal stable_state passes runs_of loaded count_due same_domain events_from variable_events activations activations_from drained later_predicates is_later_predicate is_later_function predicate_given function_given draining strictly calling applying meaning meaning_of_all pred_run calls_of rules quiet_level level_at find_pred evaluated evaluated_all matched_in matched_all_in built_in_function built_in_predicate is_predicate has_line tests comparing_tests kind_tests writing_predicates other_predicates reading_functions done_by integer_functions collection_functions sorting_functions index_functions range_functions naming_functions text_functions making_functions tree_count cells order occurrences instance rounds value followed_for followed in_pairs assigned joined outcome unified_for unbound_in cells_of_pairs most_pairs all_unified
 action_with r = (bodies_of none_later jumping).action (body_view [] [] r) (atom (codes "a")) 1
 
 three-are_enough : action_with 3 ≡ note Tick (one (record { state = atom (codes "z"); action = atom (codes "jump"); cost = int (pos 1) }))
@@ -87,7 +92,7 @@ two-are_not = refl
 
 -- at depth 0 the call is too deep
 unfoldable final_at : Tree → ℕ → Trace State
-unfolding then alt chosen settled drained predicate_given draining strictly calling meaning pred_run calls_of rules quiet_level level_at find_pred evaluated evaluated_all matched_in matched_all_in built_in_predicate has_line tests comparing_tests kind_tests writing_predicates other_predicates later_predicates is_later_predicate done_by tree_count order followed_for followed
+unfolding then alt chosen settled settlement is_unchanged are_unchanged settlement_of_goal stable_state passes runs_of loaded count_due same_domain events_from variable_events activations activations_from drained predicate_given draining strictly calling meaning pred_run calls_of rules quiet_level level_at find_pred evaluated evaluated_all matched_in matched_all_in built_in_predicate has_line tests comparing_tests kind_tests writing_predicates other_predicates later_predicates is_later_predicate done_by tree_count order followed_for followed
 final_at s d = (bodies_of none_later jumping).final (body_view [] [] 0) s d
 
 z-is_final : final_at (atom (codes "z")) 1 ≡ note Tick (one empty_state)
@@ -104,7 +109,7 @@ no-depth = refl
 
 -- X = current_resource(), in a query
 unfoldable resource_in_query : Trace Solution
-unfolding then alt settled drained is_later_function function_given draining strictly applying meaning calls_of quiet_level level_at evaluated_all built_in_function reading_functions done_by has_line integer_functions collection_functions sorting_functions index_functions range_functions naming_functions text_functions making_functions tree_count query_trace told
+unfolding then alt drained is_later_function function_given draining strictly applying meaning calls_of quiet_level level_at evaluated_all built_in_function reading_functions done_by has_line integer_functions collection_functions sorting_functions index_functions range_functions naming_functions text_functions making_functions tree_count query_trace told
 resource_in_query = query_trace (whole (query_view []) none_later []) [] (record { goal = apply (codes "current_resource") [] 0; helpers = []; names = []; slots = 1 }) 0
 
 no-resource : resource_in_query ≡ end (Raise (atom (codes "no_resource")))
