@@ -4,6 +4,6 @@ pub mod RunBegins
 pub mod TurnsGo
 pub mod NextTurns
 pub mod RunsTold
-pub mod TicksHappen
+pub mod CountLemmas
 mod AddsExamples
 mod NamedLaid

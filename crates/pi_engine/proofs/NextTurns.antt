@@ -2,7 +2,8 @@
 use Rattle.std.proofs.Common.{Box, Global, ◌≡◌, ◌≢◌, ◌⊎◌, inl, inr, ℕ, List, [], ◌∷◌, ◌++◌, Some, refl, sym, ◌∙◌, ap, subst}
 use Rattle.pi_terms.specs.Tree.{Tree}
 use Rattle.pi_meaning.specs.Shared.View.{View}
-use Rattle.pi_traces.specs.Trace.{Out, noted}
+use Rattle.pi_traces.specs.Trace.{Out, Emitted, noted}
+use Rattle.pi_meaning.specs.CoreMeaning.Run.{Solution}
 use Rattle.pi_core.specs.declared.core_program.NameSlot.{NameSlot}
 use Rattle.pi_core.specs.declared.answer.Answer.{Answer}
 use Rattle.pi_engine_code.specs.declared.code.Code.{Code}
@@ -18,16 +19,15 @@ use Rattle.pi_meaning.specs.Machine.Budget.{Counts}
 use Rattle.pi_meaning.specs.Machine.Built.{AreOfRules}
 use Rattle.pi_meaning.specs.Machine.Configuration.{Config}
 use Rattle.pi_meaning.specs.Machine.Leads.{Leads}
-use Rattle.pi_engine_stands.specs.Goes.{counted, IsAt, Goes, IsSpent, IsIn}
-use Rattle.pi_meaning.specs.Machine.Next.{Tells, some_ticks, NextIs}
+use Rattle.pi_engine_stands.specs.Goes.{IsAt, Goes, IsSpent, IsIn}
+use Rattle.pi_meaning.specs.Machine.Next.{Tells}
 use Rattle.pi_engine_stands.specs.Stands.{World, Loaded}
 use Rattle.pi_engine_stands.specs.Views.{Fits}
 use Rattle.pi_engine.specs.Seen.{MachineView, told_end, end_in, stopped}
 use Rattle.pi_engine.specs.Happens.{IsBuiltSoFar, IsRepeated}
-use Rattle.pi_engine.specs.Turns.{StepIs, IsRunning, NextComes, IsAnswered, RepeatsEnd, Lasts, with_budget}
-use Rattle.pi_engine_stands.proofs.GoalsGo.{none-counted}
+use Rattle.pi_engine.specs.Turns.{AreCutShort, Counted, StepIs, IsRunning, HappensNext, NextComes, IsAnswered, RepeatsEnd, Lasts, with_budget}
 use Rattle.pi_meaning.proofs.Machine.LeadLemmas.{leads-none}
-use Rattle.pi_engine.proofs.TurnsGo.{more-goes, answer-goes, told-goes}
+use Rattle.pi_engine.proofs.TurnsGo.{nothing-counted, counted-then, more-goes, answer-goes, told-goes}
 
 -- ---- where a run has ended
 
@@ -57,10 +57,12 @@ lasts-memory now h ended told = subst (λ x. Lasts x now) (sym told) ended
 
 -- ---- the turns so far
 
--- From what a call begins with, `first`, to what there is now: the Ticks that were counted and where the run is. Where it had
+-- From what a call begins with, `first`, to what there is now: what was counted and where the run is. Where it had
 -- ended, there was no turn.
 pub record Turned {M : Type 0} (v : View) (names : List NameSlot) (mode : Mode) (a b : Budget) (after : World M) (old now : Now) (c : Config) : Type 0 where
-  pub goes : Goes v names (some_ticks (counted mode a b)) after now c
+  pub notes : List (Emitted Solution)
+  pub counts : Counted mode a b now notes
+  pub goes : Goes v names notes after now c
   pub spent : IsRunning old → IsSpent mode b now
 
 pub record SoFar {R M : Type 0} (code : Code) (names : List NameSlot) (mode : Mode) (a b : Budget) (first present : R) (before after : Loaded → World M) (old now : Now) (turn : ℕ) : Type 0 where
@@ -71,33 +73,42 @@ pub record SoFar {R M : Type 0} (code : Code) (names : List NameSlot) (mode : Mo
 pub no-turns : {M : Type 0} (v : View) (names : List NameSlot) (mode : Mode) (b : Budget) (w : World M) (now : Now) (c : Config) → IsIn v names w now c → Turned v names mode b b w now now c
 no-turns v names mode b w now c is =
     record {
-      goes = subst (λ k. Goes v names (some_ticks k) w now c) (sym (none-counted mode b b refl)) (record { comes = c; leads = leads-none v w.loaded.preds names c; good = is.good; is = is.is });
+      notes = [];
+      counts = nothing-counted mode b now;
+      goes = record { comes = c; leads = leads-none v w.loaded.preds names c; good = is.good; is = is.is };
       spent = λ running. running-unspent mode b now running;
     }
 
-pub one-turn : {M : Type 0} (v : View) (names : List NameSlot) (mode : Mode) (a b d : Budget) (first w after : World M) (old now next : Now) (c : Config) → w.loaded ≡ first.loaded → w.loaded ≡ after.loaded → Counts mode a b → Counts mode b d → IsIn v names first old c →
+pub one-turn : {M : Type 0} (v : View) (names : List NameSlot) (mode : Mode) (a b d : Budget) (first w after : World M) (old now next : Now) (c : Config) → w.loaded ≡ first.loaded → w.loaded ≡ after.loaded → Counts mode a b → Counts mode b d → IsRunning now → IsIn v names first old c →
     (it : Turned v names mode a b w old now c) → (IsIn v names w now it.goes.comes → StepIs v names mode b d after next it.goes.comes CodeOutcome.More) → Turned v names mode a d after old next c
-one-turn v names mode a b d first w after old now next c from same one two is it steps =
+one-turn v names mode a b d first w after old now next c from same one two on is it steps =
     let step = steps (record { is = it.goes.is; good = it.goes.good; rules = subst (λ l. AreOfRules l.preds) (sym from) is.rules }) in
-    record { goes = more-goes v names mode a b d w after now next c same one two it.goes step; spent = λ running. step.spent }
+    record {
+      notes = it.notes ++ step.notes;
+      counts = counted-then mode a b d now next it.notes step.notes one two on it.counts step.counts;
+      goes = more-goes v names it.notes mode b d w after now next c same it.goes step;
+      spent = λ running. step.spent;
+    }
 
 -- ---- what the call comes to
 
-ended-is : {M : Type 0} (v : View) (names : List NameSlot) (k : ℕ) (after : World M) (e : RunEnd) (h : Happening) (c : Config) → IsAnswered e h → (it : Goes v names (some_ticks k) after (Now.Ended e) c) → NextIs v after.loaded.preds names k h c it.comes
-ended-is v names k after RunEnd.Done h c told it = subst (λ x. NextIs v after.loaded.preds names k x c it.comes) (sym told) (it.leads, it.is)
-ended-is v names k after (RunEnd.Raised ball) h c told it = subst (λ x. NextIs v after.loaded.preds names k x c it.comes) (sym told) (it.leads, it.is)
-ended-is v names k after RunEnd.StepsSpent h c told it = subst (λ x. NextIs v after.loaded.preds names k x c it.comes) (sym told) (it.leads, it.is)
-ended-is v names k after RunEnd.WorkSpent h c told it = subst (λ x. NextIs v after.loaded.preds names k x c it.comes) (sym told) (it.leads, it.is)
-ended-is v names k after RunEnd.Memory h c told it = subst (λ x. NextIs v after.loaded.preds names k x c it.comes) (sym told) it.leads
+ended-is : {M : Type 0} (v : View) (names : List NameSlot) (notes : List (Emitted Solution)) (after : World M) (e : RunEnd) (h : Happening) (c : Config) → IsAnswered e h → (it : Goes v names notes after (Now.Ended e) c) → HappensNext v after.loaded.preds names notes h c it.comes
+ended-is v names notes after RunEnd.Done h c told it = subst (λ x. HappensNext v after.loaded.preds names notes x c it.comes) (sym told) (it.leads, it.is)
+ended-is v names notes after (RunEnd.Raised ball) h c told it = subst (λ x. HappensNext v after.loaded.preds names notes x c it.comes) (sym told) (it.leads, it.is)
+ended-is v names notes after RunEnd.StepsSpent h c told it = subst (λ x. HappensNext v after.loaded.preds names notes x c it.comes) (sym told) (it.leads, it.is)
+ended-is v names notes after RunEnd.WorkSpent h c told it = subst (λ x. HappensNext v after.loaded.preds names notes x c it.comes) (sym told) (it.leads, it.is)
+ended-is v names notes after RunEnd.Memory h c told it = subst (λ x. HappensNext v after.loaded.preds names notes x c it.comes) (sym told) it.leads
 
 -- an end
 pub end-comes : {M : Type 0} (v : View) (names : List NameSlot) (mode : Mode) (a b : Budget) (after : World M) (old now : Now) (e : RunEnd) (h : Happening) (c : Config) → now ≡ Now.Ended e → IsAnswered e h → Turned v names mode a b after old now c →
     NextComes v names mode a b after old now c h
 end-comes v names mode a b after old now e h c ended told it =
-    let goes : Goes v names (some_ticks (counted mode a b)) after (Now.Ended e) c = subst (λ n. Goes v names (some_ticks (counted mode a b)) after n c) ended it.goes in
+    let goes : Goes v names it.notes after (Now.Ended e) c = subst (λ n. Goes v names it.notes after n c) ended it.goes in
     record {
+      notes = it.notes;
+      counts = it.counts;
       comes = goes.comes;
-      is = ended-is v names (counted mode a b) after e h c told goes;
+      is = ended-is v names it.notes after e h c told goes;
       good = goes.good;
       at = subst (λ n. IsAt v names after n goes.comes) (sym ended) goes.is;
       spent = it.spent;
@@ -107,30 +118,55 @@ end-comes v names mode a b after old now e h c ended told it =
 pub memory-comes : {M : Type 0} (v : View) (names : List NameSlot) (mode : Mode) (a b : Budget) (w after : World M) (old now next : Now) (h : Happening) (c : Config) → w.loaded ≡ after.loaded → next ≡ Now.Ended RunEnd.Memory → h ≡ Happening.Memory → Turned v names mode a b w old now c →
     NextComes v names mode a b after old next c h
 memory-comes v names mode a b w after old now next h c same ended told it =
-    let k : ℕ = counted mode a b in
     record {
+      notes = it.notes;
+      counts = record {
+        kinds = it.counts.kinds;
+        ticks = it.counts.ticks;
+        finished = it.counts.finished;
+        cut_short = it.counts.cut_short;
+        runs = it.counts.runs;
+        loads = it.counts.loads;
+        others = subst (λ n. AreCutShort n it.counts.cut_short) (sym ended) tt;
+      };
       comes = it.goes.comes;
-      is = subst (λ x. NextIs v after.loaded.preds names k x c it.goes.comes) (sym told) (subst (λ l. Leads v l.preds names (some_ticks k) c it.goes.comes) same it.goes.leads);
+      is = subst (λ x. HappensNext v after.loaded.preds names it.notes x c it.goes.comes) (sym told) (subst (λ l. Leads v l.preds names it.notes c it.goes.comes) same it.goes.leads);
       good = it.goes.good;
       at = subst (λ n. IsAt v names after n it.goes.comes) (sym ended) tt;
       spent = λ running. subst (IsSpent mode b) (sym ended) tt;
     }
 
 -- an answer
-pub answer-comes : {M : Type 0} (v : View) (names : List NameSlot) (mode : Mode) (a b d : Budget) (first w after : World M) (old now next : Now) (c : Config) (told : Box Answer Global) (x : Answer) → x ≡ told.value → w.loaded ≡ first.loaded → w.loaded ≡ after.loaded → Counts mode a b → Counts mode b d → IsIn v names first old c →
+pub answer-comes : {M : Type 0} (v : View) (names : List NameSlot) (mode : Mode) (a b d : Budget) (first w after : World M) (old now next : Now) (c : Config) (told : Box Answer Global) (x : Answer) → x ≡ told.value → w.loaded ≡ first.loaded → w.loaded ≡ after.loaded → Counts mode a b → Counts mode b d → IsRunning now → IsIn v names first old c →
     (it : Turned v names mode a b w old now c) → (IsIn v names w now it.goes.comes → StepIs v names mode b d after next it.goes.comes (CodeOutcome.Answered told)) → NextComes v names mode a d after old next c (Happening.Answer x)
-answer-comes v names mode a b d first w after old now next c told x unboxed from same one two is it steps =
+answer-comes v names mode a b d first w after old now next c told x unboxed from same one two on is it steps =
     let step = steps (record { is = it.goes.is; good = it.goes.good; rules = subst (λ l. AreOfRules l.preds) (sym from) is.rules }) in
-    let goes = answer-goes v names mode a b d w after now next c told same one two it.goes step in
-    record { comes = goes.2.comes; is = (goes.0, subst (Tells names goes.0) (sym unboxed) goes.1, goes.2.leads); good = goes.2.good; at = goes.2.is; spent = λ running. step.spent }
+    let goes = answer-goes v names it.notes mode b d w after now next c told same it.goes step in
+    record {
+      notes = it.notes ++ step.notes;
+      counts = counted-then mode a b d now next it.notes step.notes one two on it.counts step.counts;
+      comes = goes.2.comes;
+      is = (goes.0, subst (Tells names goes.0) (sym unboxed) goes.1, goes.2.leads);
+      good = goes.2.good;
+      at = goes.2.is;
+      spent = λ running. step.spent;
+    }
 
 -- a text
-pub told-comes : {M : Type 0} (v : View) (names : List NameSlot) (mode : Mode) (a b d : Budget) (first w after : World M) (old now next : Now) (c : Config) (told : Box Telling Global) (text : List ℕ) → text ≡ told.value.text → w.loaded ≡ first.loaded → w.loaded ≡ after.loaded → Counts mode a b → Counts mode b d → IsIn v names first old c →
+pub told-comes : {M : Type 0} (v : View) (names : List NameSlot) (mode : Mode) (a b d : Budget) (first w after : World M) (old now next : Now) (c : Config) (told : Box Telling Global) (text : List ℕ) → text ≡ told.value.text → w.loaded ≡ first.loaded → w.loaded ≡ after.loaded → Counts mode a b → Counts mode b d → IsRunning now → IsIn v names first old c →
     (it : Turned v names mode a b w old now c) → (IsIn v names w now it.goes.comes → StepIs v names mode b d after next it.goes.comes (CodeOutcome.Told told)) → NextComes v names mode a d after old next c (Happening.Out text)
-told-comes v names mode a b d first w after old now next c told text unboxed from same one two is it steps =
+told-comes v names mode a b d first w after old now next c told text unboxed from same one two on is it steps =
     let step = steps (record { is = it.goes.is; good = it.goes.good; rules = subst (λ l. AreOfRules l.preds) (sym from) is.rules }) in
-    let goes = told-goes v names mode a b d w after now next c told same one two it.goes step in
-    record { comes = goes.comes; is = subst (λ t. Leads v after.loaded.preds names (some_ticks (counted mode a d) ++ noted (Out t) ∷ []) c goes.comes) (sym unboxed) goes.leads; good = goes.good; at = goes.is; spent = λ running. step.spent }
+    let goes = told-goes v names it.notes mode b d w after now next c told same it.goes step in
+    record {
+      notes = it.notes ++ step.notes;
+      counts = counted-then mode a b d now next it.notes step.notes one two on it.counts step.counts;
+      comes = goes.comes;
+      is = subst (λ t. Leads v after.loaded.preds names ((it.notes ++ step.notes) ++ noted (Out t) ∷ []) c goes.comes) (sym unboxed) goes.leads;
+      good = goes.good;
+      at = goes.is;
+      spent = λ running. step.spent;
+    }
 
 -- ---- an end that is answered again, as it is read of a machine
 

@@ -1,14 +1,12 @@
 -- What a call of `next` comes to, for those that use the machine.
-use Rattle.std.proofs.Common.{◌≡◌, inl, ℕ, zero, suc, ◌+◌, ◌<◌, List, [], ◌∷◌, ◌++◌, Some, None, refl, ◌∙◌, ap, subst, arith}
+use Rattle.std.proofs.Common.{◌≡◌, inl, ℕ, suc, ◌<◌, List, [], ◌∷◌, ◌++◌, Some, None, refl, ap, sym, subst, append_assoc, arith}
 use Rattle.std.specs.Prelude.{Contains}
 use Rattle.pi_terms.specs.Tree.{Tree}
 use Rattle.pi_constraints.specs.Store.{StoreView}
 use Rattle.pi_meaning.specs.Shared.View.{View}
-use Rattle.pi_meaning.specs.CoreMeaning.Instances.{no_later, whole}
 use Rattle.pi_core.specs.CoreTree.{PredTree, QueryTree}
-use Rattle.pi_traces.specs.Depth.{Spent}
-use Rattle.pi_traces.specs.Trace.{End, Done, Raise, Tick, Load, Out, Emitted, noted, answered, count_ticks}
-use Rattle.pi_meaning.specs.CoreMeaning.Run.{Solution, IsRunUnder}
+use Rattle.pi_traces.specs.Trace.{End, Done, Raise, Tick, Out, Emitted, noted, answered}
+use Rattle.pi_meaning.specs.CoreMeaning.Run.{Solution}
 use Rattle.pi_meaning.specs.CoreMeaning.Sound.{IsSoundQuery}
 use Rattle.pi_core.specs.declared.core_program.NameSlot.{NameSlot}
 use Rattle.pi_meaning.specs.declared.happening.Budget.{Budget}
@@ -22,34 +20,19 @@ use Rattle.pi_engine.specs.Begins.{Begins, begun}
 use Rattle.pi_meaning.specs.Machine.Built.{AreOfRules}
 use Rattle.pi_meaning.specs.Machine.Configuration.{Config}
 use Rattle.pi_meaning.specs.Machine.Budget.{AreStepsUsed, IsWorkUsed, IsInner}
-use Rattle.pi_engine_stands.specs.Goes.{counted, HasNone, IsAt, IsSpent, IsIn}
+use Rattle.pi_engine_stands.specs.Goes.{HasNone, IsAt, IsSpent, IsIn}
 use Rattle.pi_meaning.specs.Machine.Leads.{Leads, IsAtEnd, IsAtTick}
-use Rattle.pi_meaning.specs.Machine.Next.{some_ticks}
 use Rattle.pi_engine.specs.Seen.{MachineView, end_in, HasEnded, GoesOn, Fits, IsException}
 use Rattle.pi_engine.specs.Inside.{loaded_as, run_of, HasComeTo, IsPlaced}
 use Rattle.pi_engine.specs.Runs.{RunsTo, EndsWith}
-use Rattle.pi_engine.specs.Happens.{HappensByTicks, lasting}
+use Rattle.pi_engine.specs.Happens.{AreCutOff, Adds, StandsBefore, Comes, Happens, course, lasting}
 use Rattle.pi_meaning.specs.Machine.Step.{start}
-use Rattle.pi_engine.specs.Turns.{IsRunning, NextComes, Lasts}
+use Rattle.pi_engine.specs.Turns.{AreCutShort, Counted, IsRunning, NextComes, Lasts}
+use Rattle.pi_engine.proofs.TurnsGo.{none-while-running}
 use Rattle.pi_engine_stands.specs.Stands.{World, Stands}
 use Rattle.pi_engine_stands.proofs.GoalsGo.{no-end}
 use Rattle.pi_meaning.proofs.Machine.LeadLemmas.{leads-none, leads-on, start-good}
 use Rattle.pi_meaning.proofs.Machine.RunLaws.{ended-run, spent-run, run-prefix}
-
--- ---- Ticks behind events
-
-pub count-some : (k : ℕ) → count_ticks (some_ticks k) ≡ k
-unfolding count_ticks
-count-some zero = refl
-count-some (suc k) = ap suc (count-some k)
-
-pub count-added : (events : List (Emitted Solution)) (k : ℕ) → count_ticks (events ++ some_ticks k) ≡ count_ticks events + k
-unfolding count_ticks
-count-added [] k = count-some k ∙ omega arith
-count-added (noted Tick ∷ events) k = ap suc (count-added events k) ∙ omega arith
-count-added (noted (Load n) ∷ events) k = count-added events k
-count-added (noted (Out text) ∷ events) k = count-added events k
-count-added (answered x ∷ events) k = count-added events k
 
 -- ---- a machine at two moments
 
@@ -138,11 +121,9 @@ ends-with v program q events more c d e leads then ends n less =
     ended-run v program q (events ++ more) d e n (leads-on v (program ++ q.helpers) q.names events more (start q) c d leads then) ends less
 
 -- it is about to count a Tick
-cut-off : (v : View) (program : List PredTree) (q : QueryTree) (events : List (Emitted Solution)) (k : ℕ) (c d : Config) → Leads v (program ++ q.helpers) q.names events (start q) c → Leads v (program ++ q.helpers) q.names (some_ticks k) c d →
-    IsAtTick v (program ++ q.helpers) q.names d → IsRunUnder (whole v no_later (program ++ q.helpers)) program q (count_ticks events + k) (record { events = events ++ some_ticks k; stop = Spent })
-cut-off v program q events k c d leads then at =
-    subst (λ n. IsRunUnder (whole v no_later (program ++ q.helpers)) program q n (record { events = events ++ some_ticks k; stop = Spent })) (count-added events k)
-    (spent-run v program q (events ++ some_ticks k) d (leads-on v (program ++ q.helpers) q.names events (some_ticks k) (start q) c d leads then) at)
+cut-off : (v : View) (program : List PredTree) (q : QueryTree) (events more : List (Emitted Solution)) (c d : Config) → Leads v (program ++ q.helpers) q.names events (start q) c → Leads v (program ++ q.helpers) q.names more c d →
+    IsAtTick v (program ++ q.helpers) q.names d → StandsBefore v program q (events ++ more) Tick
+cut-off v program q events more c d leads then at = spent-run v program q (events ++ more) d (leads-on v (program ++ q.helpers) q.names events more (start q) c d leads then) at
 
 steps-used : (mode : Mode) (b : Budget) → mode ≡ Mode.Top → HasNone mode b → AreStepsUsed b
 steps-used Mode.Top b top none = none
@@ -152,38 +133,68 @@ work-used : (mode : Mode) (b : Budget) → IsInner mode → HasNone mode b → I
 work-used Mode.Top b inner none = absurd inner
 work-used (Mode.Inner rest) b inner none = none
 
-pub told-by : {M : Type 0} (v : View) (m : MachineView M) (program : List PredTree) (q : QueryTree) (events : List (Emitted Solution)) (store : StoreView M) (arenas : ArenasView M) (now : Now) (old new : Budget) (h : Happening) → GoesOn m → (r : RunsTo v m program q events) →
-    NextComes v q.names m.mode old new (run_of (later m store arenas now) (loaded_as m r.place.terms program q)) m.now now r.place.config h → Lasts h now → HappensByTicks v program q events m (later m store arenas now) old new h
-told-by v m program q events store arenas now old new (Happening.Answer a) on r it lasts =
-    let x = it.is.0 in
-    (x, it.is.1, runs-on v m program q events (some_ticks (counted m.mode old new) ++ answered x ∷ []) store arenas now old new (Happening.Answer a) on r it it.is.2)
-told-by v m program q events store arenas now old new (Happening.Out text) on r it lasts =
-    runs-on v m program q events (some_ticks (counted m.mode old new) ++ noted (Out text) ∷ []) store arenas now old new (Happening.Out text) on r it it.is
-told-by v m program q events store arenas now old new (Happening.NeedPlan call) on r it lasts = absurd it.is
-told-by v m program q events store arenas now old new Happening.Done on r it lasts =
-    let k : ℕ = counted m.mode old new in
-    (ends-with v program q events (some_ticks k) r.place.config it.comes Done r.place.leads it.is.0 it.is.1, runs-on v m program q events (some_ticks k) store arenas now old new Happening.Done on r it it.is.0)
-told-by v m program q events store arenas now old new (Happening.Raised ball) on r it lasts =
-    let k : ℕ = counted m.mode old new in
-    (ends-with v program q events (some_ticks k) r.place.config it.comes (Raise ball) r.place.leads it.is.0 it.is.1, runs-on v m program q events (some_ticks k) store arenas now old new (Happening.Raised ball) on r it it.is.0)
-told-by v m program q events store arenas now old new Happening.StepsSpent on r it lasts =
-    let k : ℕ = counted m.mode old new in
+-- of a propagation that is cut short, by what happens
+cut-short : (now : Now) (h : Happening) (k : ℕ) → Lasts h now → AreCutShort now k → AreCutOff h k
+cut-short now (Happening.Answer a) k lasts h = none-while-running now k lasts h
+cut-short now (Happening.Out text) k lasts h = none-while-running now k lasts h
+cut-short now (Happening.NeedPlan call) k lasts h = none-while-running now k lasts h
+cut-short now Happening.Done k lasts h = subst (λ n. AreCutShort n k) lasts h
+cut-short now (Happening.Raised ball) k lasts h = subst (λ n. AreCutShort n k) lasts h
+cut-short now Happening.StepsSpent k lasts h = subst (λ n. AreCutShort n k) lasts h
+cut-short now Happening.WorkSpent k lasts h = tt
+cut-short now Happening.Memory k lasts h = tt
+
+adds : (mode : Mode) (old new : Budget) (now : Now) (h : Happening) (notes : List (Emitted Solution)) → Lasts h now → Counted mode old new now notes → Adds mode old new h notes
+adds mode old new now h notes lasts it =
+    record { kinds = it.kinds; ticks = it.ticks; finished = it.finished; cut_off = it.cut_short; runs = it.runs; loads = it.loads; others = cut-short now h it.cut_short lasts it.others }
+
+-- what comes behind the notes
+comes-behind : {M : Type 0} (v : View) (m : MachineView M) (program : List PredTree) (q : QueryTree) (events : List (Emitted Solution)) (store : StoreView M) (arenas : ArenasView M) (now : Now) (old new : Budget) (h : Happening) → GoesOn m → (r : RunsTo v m program q events) →
+    (it : NextComes v q.names m.mode old new (run_of (later m store arenas now) (loaded_as m r.place.terms program q)) m.now now r.place.config h) → Lasts h now → Comes (course v program q) (events ++ it.notes) (later m store arenas now) new h
+comes-behind v m program q events store arenas now old new (Happening.Answer a) on r it lasts =
+    let x = it.is.0 in (
+      x,
+      it.is.1,
+      subst (λ es. RunsTo v (later m store arenas now) program q es) (sym (append_assoc events it.notes (answered x ∷ [])))
+          (runs-on v m program q events (it.notes ++ answered x ∷ []) store arenas now old new (Happening.Answer a) on r it it.is.2),
+    )
+comes-behind v m program q events store arenas now old new (Happening.Out text) on r it lasts =
+    subst (λ es. RunsTo v (later m store arenas now) program q es) (sym (append_assoc events it.notes (noted (Out text) ∷ [])))
+    (runs-on v m program q events (it.notes ++ noted (Out text) ∷ []) store arenas now old new (Happening.Out text) on r it it.is)
+comes-behind v m program q events store arenas now old new (Happening.NeedPlan call) on r it lasts = absurd it.is
+comes-behind v m program q events store arenas now old new Happening.Done on r it lasts =
+    (ends-with v program q events it.notes r.place.config it.comes Done r.place.leads it.is.0 it.is.1, runs-on v m program q events it.notes store arenas now old new Happening.Done on r it it.is.0)
+comes-behind v m program q events store arenas now old new (Happening.Raised ball) on r it lasts = (
+  Raise ball,
+  inl refl,
+  ends-with v program q events it.notes r.place.config it.comes (Raise ball) r.place.leads it.is.0 it.is.1,
+  runs-on v m program q events it.notes store arenas now old new (Happening.Raised ball) on r it it.is.0,
+)
+comes-behind v m program q events store arenas now old new Happening.StepsSpent on r it lasts =
     let spent : (m.mode ≡ Mode.Top) × HasNone m.mode new = subst (IsSpent m.mode new) lasts (it.spent (running-in m.now on)) in (
-      cut-off v program q events k r.place.config it.comes r.place.leads it.is.0 it.is.1,
-      runs-on v m program q events (some_ticks k) store arenas now old new Happening.StepsSpent on r it it.is.0,
+      record {
+        next = cut-off v program q events it.notes r.place.config it.comes r.place.leads it.is.0 it.is.1;
+        runs = runs-on v m program q events it.notes store arenas now old new Happening.StepsSpent on r it it.is.0;
+      },
       spent.0,
       steps-used m.mode new spent.0 spent.1,
     )
-told-by v m program q events store arenas now old new Happening.WorkSpent on r it lasts =
-    let k : ℕ = counted m.mode old new in
+comes-behind v m program q events store arenas now old new Happening.WorkSpent on r it lasts =
     let spent : IsInner m.mode × HasNone m.mode new = subst (IsSpent m.mode new) lasts (it.spent (running-in m.now on)) in (
-      cut-off v program q events k r.place.config it.comes r.place.leads it.is.0 it.is.1,
-      runs-on v m program q events (some_ticks k) store arenas now old new Happening.WorkSpent on r it it.is.0,
+      Tick,
       spent.0,
+      record {
+        next = cut-off v program q events it.notes r.place.config it.comes r.place.leads it.is.0 it.is.1;
+        runs = runs-on v m program q events it.notes store arenas now old new Happening.WorkSpent on r it it.is.0;
+      },
       work-used m.mode new spent.0 spent.1,
     )
-told-by v m program q events store arenas now old new Happening.Memory on r it lasts =
-    runs-on v m program q events (some_ticks (counted m.mode old new)) store arenas now old new Happening.Memory on r it it.is
+comes-behind v m program q events store arenas now old new Happening.Memory on r it lasts = runs-on v m program q events it.notes store arenas now old new Happening.Memory on r it it.is
+
+pub told-by : {M : Type 0} (v : View) (m : MachineView M) (program : List PredTree) (q : QueryTree) (events : List (Emitted Solution)) (store : StoreView M) (arenas : ArenasView M) (now : Now) (old new : Budget) (h : Happening) → GoesOn m → (r : RunsTo v m program q events) →
+    NextComes v q.names m.mode old new (run_of (later m store arenas now) (loaded_as m r.place.terms program q)) m.now now r.place.config h → Lasts h now → Happens v program q events m (later m store arenas now) old new h
+told-by v m program q events store arenas now old new h on r it lasts =
+    record { notes = it.notes; adds = adds m.mode old new now h it.notes lasts it.counts; comes = comes-behind v m program q events store arenas now old new h on r it lasts }
 
 -- ---- laws
 

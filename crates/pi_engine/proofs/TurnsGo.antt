@@ -1,13 +1,12 @@
 -- What each step of the code is to a run: the Ticks that it counts, its answer, and where the run is then.
-use Rattle.std.proofs.Common.{Box, Global, ◌≡◌, ℕ, ◌+◌, List, [], ◌∷◌, ◌++◌, refl, sym, ◌∙◌, ap, subst, append_assoc, arith}
-use Rattle.std.proofs.lemmas.List.{replicate-append-replicate}
+use Rattle.std.proofs.Common.{Box, Global, ◌≡◌, ℕ, zero, suc, ◌+◌, List, [], ◌∷◌, ◌++◌, refl, sym, ◌∙◌, ap, subst, append_assoc, arith}
 use Rattle.pi_terms.specs.Tree.{Tree}
 use Rattle.pi_terms.specs.Places.{Places}
 use Rattle.pi_constraints.specs.State.{State}
 use Rattle.pi_core.specs.GoalTree.{GoalTrees}
 use Rattle.pi_meaning.specs.Shared.View.{View}
 use Rattle.pi_core.specs.CoreTree.{PredTree}
-use Rattle.pi_traces.specs.Trace.{End, Done, Raise, Abort, Miss, Deep, Tick, Out, noted, Emitted, answered}
+use Rattle.pi_traces.specs.Trace.{End, Done, Raise, Abort, Miss, Deep, Tick, Load, Out, noted, Emitted, answered, count_ticks}
 use Rattle.pi_meaning.specs.CoreMeaning.Run.{Solution}
 use Rattle.pi_core.specs.declared.core_program.NameSlot.{NameSlot}
 use Rattle.pi_core.specs.declared.answer.Answer.{Answer}
@@ -28,7 +27,9 @@ use Rattle.pi_meaning.specs.Machine.Next.{Tells, some_ticks}
 use Rattle.pi_meaning.specs.Machine.Shape.{IsGood}
 use Rattle.pi_engine_stands.specs.Stands.{World, GoingIs, NowIs, going_now, telling_now, failing_now, raising_now, Stands, StackBelow, settling_now}
 use Rattle.pi_meaning.specs.Machine.Step.{Outcome, silently, with_tick, quietly, deeper, writing, answering, ending, fail_step, raise_step, step, loading}
-use Rattle.pi_engine.specs.Turns.{StepIs, StepStops}
+use Rattle.pi_engine.specs.Turns.{AreCutShort, Counted, StepIs, StepStops, IsRunning}
+use Rattle.pi_engine.specs.Happens.{AreTicksAndLoads, sum_of_loads}
+use Rattle.pi_engine.proofs.CountLemmas.{count-some}
 use Rattle.pi_engine_stands.proofs.GoalsGo.{is-at, none-counted, unspent, silent-goes}
 use Rattle.pi_meaning.proofs.Machine.LeadLemmas.{leads-none, leads-on, step-ends, step-writes, good-writing}
 use Rattle.pi_engine_stands.proofs.PointsDone.{GoesSilently}
@@ -78,20 +79,55 @@ comes-to-unspent after mode b now (ending e) ended = ended-unspent mode b now e 
 
 -- ---- one step
 
+-- no propagation is cut short
+none-short : (now : Now) → AreCutShort now 0
+none-short (Now.Going p) = refl
+none-short (Now.Telling told) = refl
+none-short Now.Failing = refl
+none-short (Now.Raising ball) = refl
+none-short (Now.Ended RunEnd.Done) = refl
+none-short (Now.Ended (RunEnd.Raised ball)) = refl
+none-short (Now.Ended RunEnd.StepsSpent) = refl
+none-short (Now.Ended RunEnd.WorkSpent) = tt
+none-short (Now.Ended RunEnd.Memory) = tt
+
+-- nothing is counted
+pub nothing-counted : (mode : Mode) (b : Budget) (now : Now) → Counted mode b b now []
+unfolding AreTicksAndLoads count_ticks
+nothing-counted mode b now =
+    record { kinds = tt; ticks = sym (none-counted mode b b refl); finished = 0; cut_short = 0; runs = omega arith; loads = omega arith; others = none-short now }
+
 -- a step that counts no Tick
 pub more-is : {M : Type 0} (v : View) (names : List NameSlot) (mode : Mode) (b : Budget) (after : World M) (now : Now) (c : Config) → Goes v names [] after now c → IsSpent mode b now → StepIs v names mode b b after now c CodeOutcome.More
-more-is v names mode b after now c goes is = record { is = subst (λ k. Goes v names (some_ticks k) after now c) (sym (none-counted mode b b refl)) goes; spent = is }
+more-is v names mode b after now c goes is = record { notes = []; counts = nothing-counted mode b now; is = goes; spent = is }
 
 pub silent-is : {M : Type 0} (v : View) (names : List NameSlot) (mode : Mode) (b : Budget) (after : World M) (now : Now) (c : Config) → GoesSilently v names after now c → StepIs v names mode b b after now c CodeOutcome.More
 silent-is v names mode b after now c it = more-is v names mode b after now c it.goes (it.unspent mode b)
 
-pub ticks-is : {M : Type 0} (v : View) (names : List NameSlot) (mode : Mode) (old new : Budget) (after : World M) (now : Now) (c : Config) → TicksOn v names mode old new after now c → StepIs v names mode old new after now c CodeOutcome.More
-ticks-is v names mode old new after now c it = record { is = it.goes; spent = it.spent }
+-- Ticks alone are counted
+ticks-kinds : (k : ℕ) → AreTicksAndLoads (some_ticks k)
+unfolding AreTicksAndLoads
+ticks-kinds zero = tt
+ticks-kinds (suc k) = ticks-kinds k
+
+ticks-counted : (mode : Mode) (old new : Budget) (now : Now) → Counts mode old new → Counted mode old new now (some_ticks (counted mode old new))
+ticks-counted mode old new now counts = record {
+  kinds = ticks-kinds (counted mode old new);
+  ticks = count-some (counted mode old new);
+  finished = 0;
+  cut_short = 0;
+  runs = omega (arith, counts.runs);
+  loads = omega arith;
+  others = none-short now;
+}
+
+pub ticks-is : {M : Type 0} (v : View) (names : List NameSlot) (mode : Mode) (old new : Budget) (after : World M) (now : Now) (c : Config) → Counts mode old new → TicksOn v names mode old new after now c → StepIs v names mode old new after now c CodeOutcome.More
+ticks-is v names mode old new after now c counts it =
+    record { notes = some_ticks (counted mode old new); counts = ticks-counted mode old new now counts; is = it.goes; spent = it.spent }
 
 pub answer-is : {M : Type 0} (v : View) (names : List NameSlot) (mode : Mode) (b : Budget) (after : World M) (c : Config) (a : Box Answer Global) → (x : Solution) × Tells names x a.value × Goes v names (answered x ∷ []) after Now.Failing c →
     StepIs v names mode b b after Now.Failing c (CodeOutcome.Answered a)
-answer-is v names mode b after c a it =
-    record { is = (it.0, it.1, subst (λ k. Goes v names (some_ticks k ++ answered it.0 ∷ []) after Now.Failing c) (sym (none-counted mode b b refl)) it.2); spent = tt }
+answer-is v names mode b after c a it = record { notes = []; counts = nothing-counted mode b Now.Failing; is = it; spent = tt }
 
 -- a text is told
 telling-is : {M : Type 0} (w : World M) (x : NowData) (now : Now) (told : Box Telling Global) → now ≡ Now.Telling told → NowIs w now x →
@@ -122,7 +158,7 @@ told-is w v names mode b told c is =
       good = good-writing v w.loaded.preds names c next told.value.text is.good writes;
       is = record { entries = subst (λ x. StackBelow w x c.stack) it.3 stands.entries; runs = going_now it.4 };
     } in
-    record { is = subst (λ k. Goes v names (some_ticks k ++ noted (Out told.value.text) ∷ []) w (Now.Going told.value.point) c) (sym (none-counted mode b b refl)) goes; spent = tt }
+    record { notes = []; counts = nothing-counted mode b (Now.Going told.value.point); is = goes; spent = tt }
 
 -- a step that stops for want of memory, and counts no Tick
 pub stops-there : {M : Type 0} (v : View) (names : List NameSlot) (mode : Mode) (b : Budget) (w : World M) (c : Config) → IsGood c → StepStops v names (counting mode b b) w c
@@ -174,8 +210,54 @@ pub counted-on : (mode : Mode) (a b c : Budget) → Counts mode a b → Counts m
 counted-on Mode.Top a b c first second = omega (arith, first.ticks, second.ticks)
 counted-on (Mode.Inner rest) a b c first second = omega (arith, first.goals, second.goals)
 
-pub ticks-joined : (m n : ℕ) → some_ticks m ++ some_ticks n ≡ some_ticks (m + n)
-ticks-joined m n = replicate-append-replicate m n (noted Tick)
+both-kinds : (front back : List (Emitted Solution)) → AreTicksAndLoads front → AreTicksAndLoads back → AreTicksAndLoads (front ++ back)
+unfolding AreTicksAndLoads
+both-kinds [] back h k = k
+both-kinds (noted Tick ∷ front) back h k = both-kinds front back h k
+both-kinds (noted (Load n) ∷ front) back h k = both-kinds front back h k
+both-kinds (noted (Out text) ∷ front) back h k = absurd h
+both-kinds (answered x ∷ front) back h k = absurd h
+
+both-ticks : (front back : List (Emitted Solution)) → count_ticks (front ++ back) ≡ count_ticks front + count_ticks back
+unfolding count_ticks
+both-ticks [] back = omega arith
+both-ticks (noted Tick ∷ front) back = ap suc (both-ticks front back) ∙ omega arith
+both-ticks (noted (Load n) ∷ front) back = both-ticks front back
+both-ticks (noted (Out text) ∷ front) back = both-ticks front back
+both-ticks (answered x ∷ front) back = both-ticks front back
+
+both-loads : (front back : List (Emitted Solution)) → sum_of_loads (front ++ back) ≡ sum_of_loads front + sum_of_loads back
+unfolding sum_of_loads
+both-loads [] back = omega arith
+both-loads (noted Tick ∷ front) back = both-loads front back
+both-loads (noted (Load n) ∷ front) back = let rest : _ = both-loads front back in omega (arith, rest)
+both-loads (noted (Out text) ∷ front) back = both-loads front back
+both-loads (answered x ∷ front) back = both-loads front back
+
+pub none-while-running : (now : Now) (k : ℕ) → IsRunning now → AreCutShort now k → k ≡ 0
+none-while-running (Now.Going p) k running h = h
+none-while-running (Now.Telling told) k running h = h
+none-while-running Now.Failing k running h = h
+none-while-running (Now.Raising ball) k running h = h
+none-while-running (Now.Ended e) k running h = absurd running
+
+-- what is counted in a run that went on, and then
+pub counted-then : (mode : Mode) (a b d : Budget) (now next : Now) (front back : List (Emitted Solution)) → Counts mode a b → Counts mode b d → IsRunning now → Counted mode a b now front → Counted mode b d next back →
+    Counted mode a d next (front ++ back)
+counted-then mode a b d now next front back one two running x y =
+    let ticks : count_ticks (front ++ back) ≡ count_ticks front + count_ticks back = both-ticks front back in
+    let loads : sum_of_loads (front ++ back) ≡ sum_of_loads front + sum_of_loads back = both-loads front back in
+    let all : counted mode a b + counted mode b d ≡ counted mode a d = counted-on mode a b d one two in
+    let whole : x.cut_short ≡ 0 = none-while-running now x.cut_short running x.others in
+    record {
+      kinds = both-kinds front back x.kinds y.kinds;
+      ticks = omega (arith, ticks, all, x.ticks, y.ticks);
+      finished = x.finished + y.finished;
+      cut_short = y.cut_short;
+      runs = omega (arith, x.runs, y.runs, whole);
+      loads = omega (arith, loads, x.loads, y.loads);
+      others = y.others;
+    }
 
 -- a run, and what it does from where it is
 pub goes-on : {M : Type 0} (v : View) (names : List NameSlot) (front back : List (Emitted Solution)) (w after : World M) (old now : Now) (c : Config) → w.loaded ≡ after.loaded → (it : Goes v names front w old c) → Goes v names back after now it.comes → Goes v names (front ++ back) after now c
@@ -191,30 +273,21 @@ pub is-in : {M : Type 0} (v : View) (names : List NameSlot) (events : List (Emit
 is-in v names events w now c rules it = record { is = it.is; good = it.good; rules = rules }
 
 -- one step more
-pub more-goes : {M : Type 0} (v : View) (names : List NameSlot) (mode : Mode) (a b d : Budget) (w after : World M) (old now : Now) (c : Config) → w.loaded ≡ after.loaded → Counts mode a b → Counts mode b d → (it : Goes v names (some_ticks (counted mode a b)) w old c) →
-    StepIs v names mode b d after now it.comes CodeOutcome.More → Goes v names (some_ticks (counted mode a d)) after now c
-more-goes v names mode a b d w after old now c same first second it is =
-    subst (λ es. Goes v names es after now c) (ticks-joined (counted mode a b) (counted mode b d) ∙ ap some_ticks (counted-on mode a b d first second))
-    (goes-on v names (some_ticks (counted mode a b)) (some_ticks (counted mode b d)) w after old now c same it is.is)
+pub more-goes : {M : Type 0} (v : View) (names : List NameSlot) (front : List (Emitted Solution)) (mode : Mode) (b d : Budget) (w after : World M) (old now : Now) (c : Config) → w.loaded ≡ after.loaded → (it : Goes v names front w old c) →
+    (step : StepIs v names mode b d after now it.comes CodeOutcome.More) → Goes v names (front ++ step.notes) after now c
+more-goes v names front mode b d w after old now c same it step = goes-on v names front step.notes w after old now c same it step.is
 
-pub answer-goes : {M : Type 0} (v : View) (names : List NameSlot) (mode : Mode) (a b d : Budget) (w after : World M) (old now : Now) (c : Config) (told : Box Answer Global) → w.loaded ≡ after.loaded → Counts mode a b → Counts mode b d → (it : Goes v names (some_ticks (counted mode a b)) w old c) →
-    StepIs v names mode b d after now it.comes (CodeOutcome.Answered told) → (x : Solution) × Tells names x told.value × Goes v names (some_ticks (counted mode a d) ++ answered x ∷ []) after now c
-answer-goes v names mode a b d w after old now c told same first second it is =
-    let x : Solution = is.is.0 in
-    let m : ℕ = counted mode a b in
-    let n : ℕ = counted mode b d in (
+pub answer-goes : {M : Type 0} (v : View) (names : List NameSlot) (front : List (Emitted Solution)) (mode : Mode) (b d : Budget) (w after : World M) (old now : Now) (c : Config) (told : Box Answer Global) → w.loaded ≡ after.loaded → (it : Goes v names front w old c) →
+    (step : StepIs v names mode b d after now it.comes (CodeOutcome.Answered told)) → (x : Solution) × Tells names x told.value × Goes v names ((front ++ step.notes) ++ answered x ∷ []) after now c
+answer-goes v names front mode b d w after old now c told same it step =
+    let x : Solution = step.is.0 in (
       x,
-      is.is.1,
-      subst (λ es. Goes v names es after now c)
-          (sym (append_assoc (some_ticks m) (some_ticks n) (answered x ∷ [])) ∙ ap (λ es. es ++ answered x ∷ []) (ticks-joined m n ∙ ap some_ticks (counted-on mode a b d first second)))
-          (goes-on v names (some_ticks m) (some_ticks n ++ answered x ∷ []) w after old now c same it is.is.2),
+      step.is.1,
+      subst (λ es. Goes v names es after now c) (sym (append_assoc front step.notes (answered x ∷ []))) (goes-on v names front (step.notes ++ answered x ∷ []) w after old now c same it step.is.2),
     )
 
-pub told-goes : {M : Type 0} (v : View) (names : List NameSlot) (mode : Mode) (a b d : Budget) (w after : World M) (old now : Now) (c : Config) (told : Box Telling Global) → w.loaded ≡ after.loaded → Counts mode a b → Counts mode b d → (it : Goes v names (some_ticks (counted mode a b)) w old c) →
-    StepIs v names mode b d after now it.comes (CodeOutcome.Told told) → Goes v names (some_ticks (counted mode a d) ++ noted (Out told.value.text) ∷ []) after now c
-told-goes v names mode a b d w after old now c told same first second it is =
-    let m : ℕ = counted mode a b in
-    let n : ℕ = counted mode b d in
-    subst (λ es. Goes v names es after now c)
-    (sym (append_assoc (some_ticks m) (some_ticks n) (noted (Out told.value.text) ∷ [])) ∙ ap (λ es. es ++ noted (Out told.value.text) ∷ []) (ticks-joined m n ∙ ap some_ticks (counted-on mode a b d first second)))
-    (goes-on v names (some_ticks m) (some_ticks n ++ noted (Out told.value.text) ∷ []) w after old now c same it is.is)
+pub told-goes : {M : Type 0} (v : View) (names : List NameSlot) (front : List (Emitted Solution)) (mode : Mode) (b d : Budget) (w after : World M) (old now : Now) (c : Config) (told : Box Telling Global) → w.loaded ≡ after.loaded → (it : Goes v names front w old c) →
+    (step : StepIs v names mode b d after now it.comes (CodeOutcome.Told told)) → Goes v names ((front ++ step.notes) ++ noted (Out told.value.text) ∷ []) after now c
+told-goes v names front mode b d w after old now c told same it step =
+    subst (λ es. Goes v names es after now c) (sym (append_assoc front step.notes (noted (Out told.value.text) ∷ [])))
+    (goes-on v names front (step.notes ++ noted (Out told.value.text) ∷ []) w after old now c same it step.is)

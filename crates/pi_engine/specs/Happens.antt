@@ -1,7 +1,7 @@
 -- What a call of `next` comes to, for those that use a machine: notes that it adds to the run's events, and then its answer,
 -- its output, or where the run stops.
 use Rattle.std.specs.Prelude.{◌≡◌, ◌⊎◌, ◌≤◌, ℕ, ◌+◌, List, [], ◌∷◌, ◌++◌, Option, Some, None, ⊤}
-use Rattle.pi_traces.specs.Trace.{End, Done, Raise, Note, Tick, Load, Out, Emitted, noted, answered, count_ticks}
+use Rattle.pi_traces.specs.Trace.{End, Done, Note, Tick, Load, Out, Emitted, noted, answered, count_ticks}
 use Rattle.pi_traces.specs.Depth.{Cut, Spent, with_events}
 use Rattle.pi_meaning.specs.Shared.View.{View}
 use Rattle.pi_meaning.specs.CoreMeaning.Instances.{no_later, whole}
@@ -10,8 +10,8 @@ use Rattle.pi_core.specs.CoreTree.{PredTree, QueryTree}
 use Rattle.pi_meaning.specs.declared.happening.Budget.{Budget}
 use Rattle.pi_meaning.specs.declared.happening.Happening.{Happening}
 use Rattle.pi_meaning.specs.declared.happening.Mode.{Mode}
-use Rattle.pi_meaning.specs.Machine.Budget.{AreStepsUsed, IsWorkUsed, IsInner}
-use Rattle.pi_meaning.specs.Machine.Next.{Tells, some_ticks}
+use Rattle.pi_meaning.specs.Machine.Budget.{AreStepsUsed, IsWorkUsed}
+use Rattle.pi_meaning.specs.Machine.Next.{Tells}
 use Rattle.pi_engine_stands.specs.Goes.{counted}
 use Rattle.pi_engine.specs.Needs.{asked_for, Needs}
 use Rattle.pi_engine.specs.Seen.{MachineView, mode_of, stopped, IsException, IsWork}
@@ -89,27 +89,6 @@ pub record Happens {M : Type 0} (v : View) (program : List PredTree) (q : QueryT
   pub notes : List (Emitted Solution)
   pub adds : Adds (mode_of before) old new happening notes
   pub comes : Comes (course v program q) (events ++ notes) after new happening
-
--- ---- what comes so far
-
--- With what is built so far there are no loads, and each exception is one that a `catch` would have caught: a call adds the
--- Ticks that it counts alone, k of them, and stops in front of a Tick alone.
-abbrev pub ComesByTicks : {M : Type 0} → Course → List (Emitted Solution) → ℕ → MachineView M → Budget → Happening → Type 0
-ComesByTicks x events k after new (Happening.Answer a) = (y : Solution) × Tells x.query.names y a × RunsTo x.view after x.program x.query (events ++ (some_ticks k ++ answered y ∷ []))
-ComesByTicks x events k after new (Happening.Out text) = RunsTo x.view after x.program x.query (events ++ (some_ticks k ++ noted (Out text) ∷ []))
-ComesByTicks x events k after new (Happening.NeedPlan call) = ⊥
-ComesByTicks x events k after new Happening.Done = EndsWith x.view x.program x.query (events ++ some_ticks k) Done × RunsTo x.view after x.program x.query (events ++ some_ticks k)
-ComesByTicks x events k after new (Happening.Raised ball) = EndsWith x.view x.program x.query (events ++ some_ticks k) (Raise ball) × RunsTo x.view after x.program x.query (events ++ some_ticks k)
-ComesByTicks x events k after new Happening.StepsSpent =
-    IsRunUnder (whole x.view no_later (x.program ++ x.query.helpers)) x.program x.query (count_ticks events + k) (record { events = events ++ some_ticks k; stop = Spent }) × RunsTo x.view after x.program x.query (events ++ some_ticks k)
-    × (mode_of after ≡ Mode.Top) × AreStepsUsed new
-ComesByTicks x events k after new Happening.WorkSpent =
-    IsRunUnder (whole x.view no_later (x.program ++ x.query.helpers)) x.program x.query (count_ticks events + k) (record { events = events ++ some_ticks k; stop = Spent }) × RunsTo x.view after x.program x.query (events ++ some_ticks k)
-    × IsInner (mode_of after) × IsWorkUsed new
-ComesByTicks x events k after new Happening.Memory = RunsTo x.view after x.program x.query (events ++ some_ticks k)
-
-abbrev pub HappensByTicks : {M : Type 0} → View → List PredTree → QueryTree → List (Emitted Solution) → MachineView M → MachineView M → Budget → Budget → Happening → Type 0
-HappensByTicks v program q events before after old new happening = ComesByTicks (course v program q) events (counted (mode_of before) old new) after new happening
 
 -- there are no needs
 abbrev pub IsBuiltSoFar : Happening → Type 0

@@ -1,6 +1,9 @@
 -- What a step of the machine's code does, and what a call of `next` comes to.
-use Rattle.std.specs.Prelude.{◌≡◌, ◌⊎◌, List, [], ◌∷◌, ◌++◌, ⊤}
-use Rattle.pi_traces.specs.Trace.{Out, Emitted, noted, answered}
+use Rattle.std.specs.Prelude.{◌≡◌, ◌⊎◌, ◌≤◌, ℕ, ◌+◌, List, [], ◌∷◌, ◌++◌, ⊤}
+use Rattle.pi_core.specs.CoreTree.{PredTree}
+use Rattle.pi_meaning.specs.Machine.Leads.{Leads, IsAtTick, IsAtEnd}
+use Rattle.pi_engine.specs.Happens.{AreTicksAndLoads, sum_of_loads}
+use Rattle.pi_traces.specs.Trace.{Done, Raise, Out, Emitted, noted, answered, count_ticks}
 use Rattle.pi_meaning.specs.Shared.View.{View}
 use Rattle.pi_meaning.specs.CoreMeaning.Run.{Solution}
 use Rattle.pi_core.specs.declared.core_program.NameSlot.{NameSlot}
@@ -14,7 +17,7 @@ use Rattle.pi_engine.specs.declared.turns.Outcome.{Outcome}
 use Rattle.pi_meaning.specs.Machine.Configuration.{Config}
 use Rattle.pi_meaning.specs.Machine.Shape.{IsGood}
 use Rattle.pi_engine_stands.specs.Stands.{World}
-use Rattle.pi_meaning.specs.Machine.Next.{Tells, some_ticks, NextIs}
+use Rattle.pi_meaning.specs.Machine.Next.{Tells}
 use Rattle.pi_engine_stands.specs.Goes.{counted, IsAt, Goes, IsSpent, Counting}
 
 -- ---- one step
@@ -25,9 +28,28 @@ OutcomeIs names events goes Outcome.More = goes events
 OutcomeIs names events goes (Outcome.Answered a) = (x : Solution) × Tells names x a.value × goes (events ++ answered x ∷ [])
 OutcomeIs names events goes (Outcome.Told told) = goes (events ++ noted (Out told.value.text) ∷ [])
 
--- a step, with the Ticks that it counts
+-- runs of propagators in a propagation that isn't finished: there is none but where the run has ended for its work, or for want of memory
+abbrev pub AreCutShort : Now → ℕ → Type 0
+AreCutShort (Now.Ended RunEnd.WorkSpent) runs = ⊤
+AreCutShort (Now.Ended RunEnd.Memory) runs = ⊤
+AreCutShort now runs = runs ≡ 0
+
+-- What steps tell, by what they count: Ticks and loads. The runs of propagators are those of propagations that are finished, no more than the loads, and those of one that is cut
+-- short.
+pub record Counted (mode : Mode) (old new : Budget) (now : Now) (notes : List (Emitted Solution)) : Type 0 where
+  pub kinds : AreTicksAndLoads notes
+  pub ticks : count_ticks notes ≡ counted mode old new
+  pub finished : ℕ
+  pub cut_short : ℕ
+  pub runs : new.work.runs ≡ old.work.runs + finished + cut_short
+  pub loads : finished ≤ sum_of_loads notes
+  pub others : AreCutShort now cut_short
+
+-- a step, with what it counts
 pub record StepIs {M : Type 0} (v : View) (names : List NameSlot) (mode : Mode) (old new : Budget) (after : World M) (now : Now) (c : Config) (outcome : Outcome) : Type 0 where
-  pub is : OutcomeIs names (some_ticks (counted mode old new)) (λ events. Goes v names events after now c) outcome
+  pub notes : List (Emitted Solution)
+  pub counts : Counted mode old new now notes
+  pub is : OutcomeIs names notes (λ events. Goes v names events after now c) outcome
   pub spent : IsSpent mode new now
 
 -- a step that stops for want of memory: the Ticks that it counted come next in the run all the same
@@ -45,10 +67,22 @@ abbrev pub IsRunning : Now → Type 0
 IsRunning (Now.Ended e) = ⊥
 IsRunning now = ⊤
 
--- from a configuration on: what happens, and where the run is then
+-- From a configuration on: these notes, then what happens, and where the run is then. Where memory is wanted the notes come next all the same, and no more is said.
+abbrev pub HappensNext : View → List PredTree → List NameSlot → List (Emitted Solution) → Happening → Config → Config → Type 0
+HappensNext v preds names notes (Happening.Answer a) before after = (x : Solution) × Tells names x a × Leads v preds names (notes ++ answered x ∷ []) before after
+HappensNext v preds names notes (Happening.Out text) before after = Leads v preds names (notes ++ noted (Out text) ∷ []) before after
+HappensNext v preds names notes (Happening.NeedPlan c) before after = ⊥
+HappensNext v preds names notes Happening.Done before after = Leads v preds names notes before after × IsAtEnd v preds names Done after
+HappensNext v preds names notes (Happening.Raised ball) before after = Leads v preds names notes before after × IsAtEnd v preds names (Raise ball) after
+HappensNext v preds names notes Happening.StepsSpent before after = Leads v preds names notes before after × IsAtTick v preds names after
+HappensNext v preds names notes Happening.WorkSpent before after = Leads v preds names notes before after × IsAtTick v preds names after
+HappensNext v preds names notes Happening.Memory before after = Leads v preds names notes before after
+
 pub record NextComes {M : Type 0} (v : View) (names : List NameSlot) (mode : Mode) (old new : Budget) (after : World M) (before now : Now) (c : Config) (happening : Happening) : Type 0 where
+  pub notes : List (Emitted Solution)
+  pub counts : Counted mode old new now notes
   pub comes : Config
-  pub is : NextIs v after.loaded.preds names (counted mode old new) happening c comes
+  pub is : HappensNext v after.loaded.preds names notes happening c comes
   pub good : IsGood comes
   pub at : IsAt v names after now comes
   pub spent : IsRunning before → IsSpent mode new now

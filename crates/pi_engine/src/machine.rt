@@ -13,7 +13,7 @@ ghost use Rattle.pi_meaning.specs.Machine.Built.{AreOfRules};
 ghost use Rattle.pi_meaning.specs.declared.happening.Happening.{Happening};
 ghost use Rattle.pi_engine.specs.Seen.{machine_view, store_of, mode_of, kept_by, end_of, HasEnded, GoesOn, Fits};
 ghost use Rattle.pi_engine.specs.Runs.{RunsTo};
-ghost use Rattle.pi_engine.specs.Happens.{Happens, HappensByTicks, IsBuiltSoFar, IsRepeated, lasting};
+ghost use Rattle.pi_engine.specs.Happens.{Happens, IsBuiltSoFar, IsRepeated, lasting};
 
 use crate::begin::begin;
 use crate::turns::next_happening;
@@ -109,11 +109,6 @@ impl<S: StateStore> Machine<'_, S> {
             Happens v program q events (machine_view S.seen S.order self.old)
             (machine_view S.seen S.order self.new) budget.old budget.new result }
         ensures built { IsBuiltSoFar result }
-        ensures ticks { GoesOn (machine_view S.seen S.order self.old) →
-            (v : View) (program : List PredTree) (q : QueryTree) (events : List (Emitted Solution)) →
-            RunsTo v (machine_view S.seen S.order self.old) program q events →
-            HappensByTicks v program q events (machine_view S.seen S.order self.old)
-            (machine_view S.seen S.order self.new) budget.old budget.new result }
         ensures repeats { (end : Happening) → HasEnded (machine_view S.seen S.order self.old) end →
             IsRepeated end (machine_view S.seen S.order self.old) (machine_view S.seen S.order self.new) budget.old budget.new result }
         ensures lasts { end_of (machine_view S.seen S.order self.new) ≡ lasting result }

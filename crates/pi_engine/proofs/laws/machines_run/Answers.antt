@@ -1,4 +1,5 @@
-use Rattle.pi_engine.proofs.RunsTold.{count-added, done-ends, raised-ends}
+use Rattle.pi_engine.proofs.CountLemmas.{count-added}
+use Rattle.pi_engine.proofs.RunsTold.{done-ends, raised-ends}
 use Rattle.pi_engine.proofs.laws.machines_run.Goals as goal
 
 pub returns-clause-done : goal.returns-clause-done

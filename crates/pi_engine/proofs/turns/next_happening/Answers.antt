@@ -30,7 +30,7 @@ loop-turn-preserved g c =
           (let it = before.turns l is_code are v fits d is in
           one-turn v c.args.names.now c.args.mode c.args.budget.now c.loop-turn.budget c.step.new.budget
           (world l (g.S.StateStore.seen first.store) g.S.StateStore.order (view_of first.arenas)) (world l (g.S.StateStore.seen here.store) g.S.StateStore.order (view_of here.arenas))
-          (world l (g.S.StateStore.seen next.store) g.S.StateStore.order (view_of next.arenas)) first.now here.now next.now d refl refl before.counts c.step.ensures.counts is it
+          (world l (g.S.StateStore.seen next.store) g.S.StateStore.order (view_of next.arenas)) first.now here.now next.now d refl refl before.counts c.step.ensures.counts (running-of here.now c.in_default.not-Ended) is it
           (λ at. subst (StepIs v c.args.names.now c.args.mode c.loop-turn.budget c.step.new.budget (world l (g.S.StateStore.seen next.store) g.S.StateStore.order (view_of next.arenas)) next.now it.goes.comes) c.in-More.is
           (c.in-Ok-step.ensures.is (running-of here.now c.in_default.not-Ended) l is_code are v fits it.goes.comes at)));
       still = λ e ended. absurd (c.in_default.not-Ended e (ap (λ r. r.now) (before.still e ended).0 ∙ ended));
@@ -58,7 +58,7 @@ returns-in-Answered g c =
           (let it = before.turns l is_code are v fits d is in
           answer-comes v c.args.names.now c.args.mode c.args.budget.now c.loop-turn.budget c.step.new.budget
           (world l (g.S.StateStore.seen first.store) g.S.StateStore.order (view_of first.arenas)) (world l (g.S.StateStore.seen here.store) g.S.StateStore.order (view_of here.arenas))
-          (world l (g.S.StateStore.seen next.store) g.S.StateStore.order (view_of next.arenas)) first.now here.now next.now d c.in-Answered.answer c.into_inner.result c.into_inner.ensures refl refl before.counts c.step.ensures.counts is it
+          (world l (g.S.StateStore.seen next.store) g.S.StateStore.order (view_of next.arenas)) first.now here.now next.now d c.in-Answered.answer c.into_inner.result c.into_inner.ensures refl refl before.counts c.step.ensures.counts (running-of here.now c.in_default.not-Ended) is it
           (λ at. subst (StepIs v c.args.names.now c.args.mode c.loop-turn.budget c.step.new.budget (world l (g.S.StateStore.seen next.store) g.S.StateStore.order (view_of next.arenas)) next.now it.goes.comes) c.in-Answered.is
           (c.in-Ok-step.ensures.is (running-of here.now c.in_default.not-Ended) l is_code are v fits it.goes.comes at)));
       repeats = λ e ended. absurd (c.in_default.not-Ended e (ap (λ r. r.now) (before.still e ended).0 ∙ ended));
@@ -78,7 +78,7 @@ returns-in-Told g c =
           (let it = before.turns l is_code are v fits d is in
           told-comes v c.args.names.now c.args.mode c.args.budget.now c.loop-turn.budget c.step.new.budget
           (world l (g.S.StateStore.seen first.store) g.S.StateStore.order (view_of first.arenas)) (world l (g.S.StateStore.seen here.store) g.S.StateStore.order (view_of here.arenas))
-          (world l (g.S.StateStore.seen next.store) g.S.StateStore.order (view_of next.arenas)) first.now here.now next.now d c.in-Told.told c.text_of.result c.text_of.ensures refl refl before.counts c.step.ensures.counts is it
+          (world l (g.S.StateStore.seen next.store) g.S.StateStore.order (view_of next.arenas)) first.now here.now next.now d c.in-Told.told c.text_of.result c.text_of.ensures refl refl before.counts c.step.ensures.counts (running-of here.now c.in_default.not-Ended) is it
           (λ at. subst (StepIs v c.args.names.now c.args.mode c.loop-turn.budget c.step.new.budget (world l (g.S.StateStore.seen next.store) g.S.StateStore.order (view_of next.arenas)) next.now it.goes.comes) c.in-Told.is
           (c.in-Ok-step.ensures.is (running-of here.now c.in_default.not-Ended) l is_code are v fits it.goes.comes at)));
       repeats = λ e ended. absurd (c.in_default.not-Ended e (ap (λ r. r.now) (before.still e ended).0 ∙ ended));
@@ -101,7 +101,7 @@ returns-in_default-step g c =
           memory-comes v c.args.names.now c.args.mode c.args.budget.now c.step.new.budget w (world l (g.S.StateStore.seen wanted.new.run.store) g.S.StateStore.order (view_of wanted.new.run.arenas)) first.now (Now.Ended End.Memory)
           wanted.new.run.now wanted.result d refl ended wanted.ensures.result
           (one-turn v c.args.names.now c.args.mode c.args.budget.now c.loop-turn.budget c.step.new.budget (world l (g.S.StateStore.seen first.store) g.S.StateStore.order (view_of first.arenas)) w w first.now here.now (Now.Ended End.Memory) d
-          refl refl before.counts c.step.ensures.counts is it (c.in_default-step.ensures.stops (running-of here.now c.in_default.not-Ended) l is_code v fits it.goes.comes)));
+          refl refl before.counts c.step.ensures.counts (running-of here.now c.in_default.not-Ended) is it (c.in_default-step.ensures.stops (running-of here.now c.in_default.not-Ended) l is_code v fits it.goes.comes)));
       repeats = λ e at. absurd (c.in_default.not-Ended e (ap (λ r. r.now) (before.still e at).0 ∙ at));
       built = subst IsBuiltSoFar (sym wanted.ensures.result) tt;
       lasts = lasts-memory wanted.new.run.now wanted.result ended wanted.ensures.result;

@@ -1,5 +1,6 @@
 use Rattle.std.proofs.Common.{◌<◌, refl, sym, subst, arith}
 use Rattle.pi_engine_arenas.specs.declared.run.Now.{Now}
+use Rattle.pi_engine_arenas.specs.declared.run.End.{End}
 use Rattle.pi_engine_arenas.specs.Arenas.{view_of}
 use Rattle.pi_engine_stands.specs.Goes.{IsAt, IsIn}
 use Rattle.pi_engine_stands.specs.Stands.{World, Stands, world}
@@ -23,7 +24,7 @@ returns-in_ok-run_goal-in-Going-clause-is g c = λ running l is_code are v fits 
     let after : World _ = world l (g.S.StateStore.seen end.store) g.S.StateStore.order (view_of end.arenas) in
     let stands : Stands w (Now.Going c.in-Going.at) d = subst (λ n. IsAt v c.args.names.now w n d) c.in-Going.is is.is in
     let some : 0 < c.in-Going.at.count = omega (arith, c.if-point-eq0.false) in
-    ticks-is v c.args.names.now c.args.mode c.args.budget.now c.run_goal.new.budget after end.now d (c.in_ok-run_goal-in-Going.ensures.goes l is_code v fits c.args.names.now d some stands is.good is.rules)
+    ticks-is v c.args.names.now c.args.mode c.args.budget.now c.run_goal.new.budget after end.now d c.run_goal.ensures.counts (c.in_ok-run_goal-in-Going.ensures.goes l is_code v fits c.args.names.now d some stands is.good is.rules)
 
 pub returns-in_ok-fail-in-Failing-clause-is : goal.returns-in_ok-fail-in-Failing-clause-is
 returns-in_ok-fail-in-Failing-clause-is g c = λ running l is_code are v fits d is.
@@ -77,3 +78,12 @@ pub returns-in_err-unwind-in-Raising-clause-stops : goal.returns-in_err-unwind-i
 returns-in_err-unwind-in-Raising-clause-stops g c = so-at-err _ c.from_residual-in_err-unwind-in-Raising.result (λ running l is_code v fits d is.
     let run = c.args.run.now in
     stops-there v c.args.names.now c.args.mode c.args.budget.now (world l (g.S.StateStore.seen run.store) g.S.StateStore.order (view_of run.arenas)) d is.good)
+
+pub returns-in_err-run_goal-in-Going-clause-stops : goal.returns-in_err-run_goal-in-Going-clause-stops
+returns-in_err-run_goal-in-Going-clause-stops g c = so-at-err _ c.from_residual-in_err-run_goal-in-Going.result (λ running l is_code v fits d is.
+    let run = c.args.run.now in
+    let w : World _ = world l (g.S.StateStore.seen run.store) g.S.StateStore.order (view_of run.arenas) in
+    let stands : Stands w (Now.Going c.in-Going.at) d = subst (λ n. IsAt v c.args.names.now w n d) c.in-Going.is is.is in
+    let some : 0 < c.in-Going.at.count = omega (arith, c.if-point-eq0.false) in
+    ticks-is v c.args.names.now c.args.mode c.args.budget.now c.run_goal.new.budget w (Now.Ended End.Memory) d c.run_goal.ensures.counts
+    (c.in_err-run_goal-in-Going.ensures.stops l is_code v fits c.args.names.now d some stands is.good is.rules))

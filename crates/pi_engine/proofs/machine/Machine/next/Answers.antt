@@ -8,14 +8,13 @@ use Rattle.pi_engine_stands.specs.Stands.{Loaded}
 use Rattle.pi_engine.specs.Turns.{NextComes, stopped_run}
 use Rattle.pi_engine.proofs.NextTurns.{repeated-as}
 use Rattle.pi_engine.proofs.RunsTold.{later, placed-in, lasting-in, told-by}
-use Rattle.pi_engine.proofs.TicksHappen.{ticks-happen}
 use Rattle.pi_engine.proofs.machine.Machine.next.Goals as goal
 
 pub returns-clause-within : goal.returns-clause-within
 returns-clause-within g c = c.next_happening.ensures.counts.within
 
-pub returns-clause-ticks : goal.returns-clause-ticks
-returns-clause-ticks g c = λ on v program q events r.
+pub returns-clause-steps : goal.returns-clause-steps
+returns-clause-steps g c = λ on v program q events r.
     let seen = g.S.StateStore.seen in
     let end = c.next_happening.new.run in
     let a = c.args.budget.now in
@@ -28,14 +27,6 @@ returns-clause-ticks g c = λ on v program q events r.
     (subst (λ ns. NextComes v ns m.mode a b (run_of (later m (seen end.store) (view_of end.arenas) end.now) l) m.now end.now p.config c.next_happening.result) names
     (c.next_happening.ensures.comes l refl (subst (AreNames q.slots) (sym names) p.slots) v r.view p.config (subst (λ ns. IsIn v ns (run_of m l) m.now p.config) (sym names) (placed-in v m program q events on p))))
     c.next_happening.ensures.lasts
-
-pub returns-clause-steps : goal.returns-clause-steps
-returns-clause-steps g c = λ on v program q events r.
-    let seen = g.S.StateStore.seen in
-    let end = c.next_happening.new.run in
-    let m : MachineView _ = machine_view seen g.S.StateStore.order c.args.self.now in
-    ticks-happen v program q events m (later m (seen end.store) (view_of end.arenas) end.now) c.args.budget.now c.next_happening.new.budget c.next_happening.result
-    c.next_happening.ensures.counts (returns-clause-ticks g c on v program q events r)
 
 pub returns-clause-repeats : goal.returns-clause-repeats
 returns-clause-repeats g c = λ end ended.
