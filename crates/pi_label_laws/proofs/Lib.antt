@@ -1,0 +1,7 @@
+mod HoldLemmas
+mod RestLemmas
+mod OthersLemmas
+mod MadeLemmas
+mod RankLemmas
+mod SolvedLemmas
+mod LaterLemmas
