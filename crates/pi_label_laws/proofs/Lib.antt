@@ -5,3 +5,7 @@ mod MadeLemmas
 mod RankLemmas
 mod SolvedLemmas
 mod LaterLemmas
+mod TraceLemmas
+mod PickLemmas
+mod AlternativeLemmas
+mod AnswerLemmas
