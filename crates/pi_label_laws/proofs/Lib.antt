@@ -9,3 +9,5 @@ mod TraceLemmas
 mod PickLemmas
 mod AlternativeLemmas
 mod AnswerLemmas
+mod BeginLemmas
+mod GivesLemmas
