@@ -11,3 +11,6 @@ mod AlternativeLemmas
 mod AnswerLemmas
 mod BeginLemmas
 mod GivesLemmas
+mod AgreeLemmas
+mod NewForms
+mod NewTruths
