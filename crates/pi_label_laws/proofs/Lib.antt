@@ -14,3 +14,5 @@ mod GivesLemmas
 mod AgreeLemmas
 mod NewForms
 mod NewTruths
+mod NewReads
+mod NewGoals
