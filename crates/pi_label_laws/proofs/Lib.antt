@@ -16,3 +16,6 @@ mod NewForms
 mod NewTruths
 mod NewReads
 mod NewGoals
+mod RanksLemmas
+mod LabelledLemmas
+mod PostedLemmas

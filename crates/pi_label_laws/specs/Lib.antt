@@ -1,3 +1,4 @@
 pub mod Made
 pub mod SolutionLaws
 pub mod ReadingLaws
+pub mod LabelledLaws
