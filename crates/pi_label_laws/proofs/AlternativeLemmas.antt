@@ -1,6 +1,6 @@
 -- The alternatives of a variable stand in the order of the values that they allow.
-use Rattle.std.specs.Prelude.{◌≡◌, ◌⊎◌, ℕ, zero, suc, ◌-◌, ◌<◌, ℤ, pos, ◌<ℤ◌, int_le, true, false, IsTrue, List, [], ◌∷◌, length, map, reverse, get_or, AllPairs, ⊤, refl}
-use Rattle.std.proofs.Common.{arith, sym, ◌∙◌, ap, subst, inl, inr}
+use Rattle.std.specs.Prelude.{◌≡◌, ℕ, suc, ◌-◌, ◌<◌, ℤ, pos, ◌<ℤ◌, IsTrue, List, [], ◌∷◌, length, map, reverse, get_or, AllPairs, ⊤}
+use Rattle.std.proofs.Common.{arith, sym, subst, inl, inr}
 use Rattle.std.proofs.lemmas.Int.{ints}
 use Rattle.std.proofs.lemmas.List.{length-reverse, get_or-reverse}
 use Rattle.pi_constraints.specs.declared.domain.Span.{Span}

@@ -1,19 +1,18 @@
 -- What the answers of a labelling are, and in what order they stand.
-use Rattle.std.specs.Prelude.{◌≡◌, ◌⊎◌, ℕ, zero, suc, ℤ, pos, IsTrue, List, [], ◌∷◌, Option, Some, None, Contains, refl}
-use Rattle.std.proofs.Common.{arith, sym, ◌∙◌, ap, subst, inl, inr}
+use Rattle.std.specs.Prelude.{◌≡◌, ◌⊎◌, ℕ, zero, suc, ℤ, IsTrue, List, [], ◌∷◌, Option, Some, None, refl}
+use Rattle.std.proofs.Common.{sym, ◌∙◌, ap, subst, inl, inr}
 use Rattle.pi_constraints.specs.declared.constraint.Item.{Item}
-use Rattle.pi_constraints.specs.declared.domain.Span.{Span}
-use Rattle.pi_constraints.specs.State.{State, domain_of}
+use Rattle.pi_constraints.specs.State.{State}
 use Rattle.pi_constraints.proofs.StateLemmas.{domain_good}
 use Rattle.pi_prop_spec.specs.Solutions.{value_of}
-use Rattle.pi_traces.specs.Trace.{Trace, end, note, Done, done, one, alt, then, end_of}
+use Rattle.pi_traces.specs.Trace.{Trace, Done, done, one, alt, then, end_of}
 use Rattle.pi_settling.specs.Roots.{root_item}
 use Rattle.pi_settling.specs.Stable.{IsStable}
 use Rattle.pi_settling.specs.Load.{load, load_of_failure}
 use Rattle.pi_settling.specs.Settled.{loaded, IsSettled}
 use Rattle.pi_settling.specs.Solves.{Solves}
 use Rattle.pi_settling.specs.SettlingLaws.{Settles}
-use Rattle.pi_settling.specs.Options.{VariableWord, ValueWord, Options}
+use Rattle.pi_settling.specs.Options.{Options}
 use Rattle.pi_settling.specs.Choices.{Pending, pending, picked, Alternative, allows, alternatives, left_by, narrowed_to}
 use Rattle.pi_settling.specs.Label.{Settling, Lower, one_tried, all_tried, labelled_by, labelled_at}
 use Rattle.pi_settling.proofs.TwiceLemmas.{stable_stays_stable}
@@ -23,7 +22,7 @@ use Rattle.pi_label_laws.proofs.RestLemmas.{IsTold}
 use Rattle.pi_label_laws.proofs.RankLemmas.{ComesOut}
 use Rattle.pi_label_laws.proofs.LaterLemmas.{Later, later-itself, later-then, later-stable, Narrows, narrowed-later}
 use Rattle.pi_label_laws.proofs.TraceLemmas.{EachAnswer, InOrder, each-more, each-alt, order-alt, each-loaded, order-loaded}
-use Rattle.pi_label_laws.proofs.PickLemmas.{none-told, IsPending, is-pending, none-pending, told_values, Ahead, Parts, AreOut, stands-before}
+use Rattle.pi_label_laws.proofs.PickLemmas.{none-told, IsPending, is-pending, none-pending, told_values, Parts, AreOut, stands-before}
 use Rattle.pi_label_laws.proofs.AlternativeLemmas.{AllAhead, alternatives-ahead}
 
 -- ---- items
@@ -165,11 +164,11 @@ all-answers settle o items s s' l p w pick out (x ∷ xs) ahead over =
     let first = one-answers settle o items s s' l p x w (narrowed_to s' p.variable (left_by x p.domain)) refl ends.0 in
     let rest = all-answers settle o items s s' l p w pick out xs ahead.1 ends.1 in (
       each-alt (λ q. Answer items s s' q × Allowed q p.variable (SomeAllows (x ∷ xs))) t u
-      (each-more (λ q. Answer items s s' q × Allowed q p.variable (λ i. IsTrue (allows x i))) (λ q. Answer items s s' q × Allowed q p.variable (SomeAllows (x ∷ xs))) t (λ q h. (h.0, (h.1.0, h.1.1, inl h.1.2))) first.0)
-      (each-more (λ q. Answer items s s' q × Allowed q p.variable (SomeAllows xs)) (λ q. Answer items s s' q × Allowed q p.variable (SomeAllows (x ∷ xs))) u (λ q h. (h.0, (h.1.0, h.1.1, inr h.1.2))) rest.0),
+          (each-more (λ q. Answer items s s' q × Allowed q p.variable (λ i. IsTrue (allows x i))) (λ q. Answer items s s' q × Allowed q p.variable (SomeAllows (x ∷ xs))) t (λ q h. (h.0, (h.1.0, h.1.1, inl h.1.2))) first.0)
+          (each-more (λ q. Answer items s s' q × Allowed q p.variable (SomeAllows xs)) (λ q. Answer items s s' q × Allowed q p.variable (SomeAllows (x ∷ xs))) u (λ q h. (h.0, (h.1.0, h.1.1, inr h.1.2))) rest.0),
       order-alt (Ordered o items) (λ q. Answer items s s' q × Allowed q p.variable (λ i. IsTrue (allows x i))) t u first.1 rest.1 first.0 (λ r h.
-      each-more (λ q. Answer items s s' q × Allowed q p.variable (SomeAllows xs)) (Ordered o items r) u (λ q k.
-      stands-before o.variable o.value s' r q h.1.0 k.1.0 items p pick out (parts items s s' r q p.variable h.1.0 k.1.0 h.0 k.0 h.1.1 k.1.1) (ahead.0 h.1.0 k.1.0 h.1.2 k.1.2)) rest.0),
+          each-more (λ q. Answer items s s' q × Allowed q p.variable (SomeAllows xs)) (Ordered o items r) u (λ q k.
+          stands-before o.variable o.value s' r q h.1.0 k.1.0 items p pick out (parts items s s' r q p.variable h.1.0 k.1.0 h.0 k.0 h.1.1 k.1.1) (ahead.0 h.1.0 k.1.0 h.1.2 k.1.2)) rest.0),
     )
 
 -- ---- labelling

@@ -1,15 +1,15 @@
 -- Where a labelling begins: each item of a call comes to an integer or to an unbound variable that was made, and, once the variables are confined, that has a domain.
-use Rattle.std.specs.Prelude.{◌≡◌, ◌⊎◌, ℕ, zero, suc, ◌<◌, ℤ, nat_lt, Bool, true, false, cond, List, [], ◌∷◌, ◌++◌, length, map, Option, Some, None, option_map, option_and_then, Contains, ⊤, refl}
+use Rattle.std.specs.Prelude.{◌≡◌, ◌⊎◌, ℕ, zero, suc, ◌<◌, ℤ, nat_lt, Bool, true, false, cond, List, [], ◌∷◌, map, Option, Some, None, option_map, option_and_then, Contains, ⊤, refl}
 use Rattle.std.specs.Option.{option_or}
 use Rattle.std.specs.Str.{bytes_eq}
-use Rattle.std.proofs.Common.{arith, sym, ◌∙◌, ap, subst, inl, inr}
+use Rattle.std.proofs.Common.{arith, ◌∙◌, ap, subst, inl, inr}
 use Rattle.std.proofs.lemmas.List.Elements.{Contains-append_cases}
 use Rattle.pi_terms.specs.Tree.{Tree, var, int, atom, comp, Trees, no_trees, tree, cells, most_cells}
 use Rattle.pi_terms.specs.Variables.{Occurs, OccursInAny}
 use Rattle.pi_terms.specs.ListNames.{nil, cell_name}
 use Rattle.pi_terms.specs.Places.{held}
 use Rattle.pi_constraints.specs.declared.constraint.Item.{Item}
-use Rattle.pi_constraints.specs.Value.{Bindings, value}
+use Rattle.pi_constraints.specs.Value.{value}
 use Rattle.pi_constraints.specs.State.{State, next, bindings, followed, SpeaksBelow, IsState}
 use Rattle.pi_constraints.proofs.FollowLemmas.{followed_below, followed_unbound}
 use Rattle.pi_constraints.proofs.StateLemmas.{bound_below}
@@ -19,7 +19,6 @@ use Rattle.pi_settling.specs.Options.{Options, ReadOptions, options, bad_option,
 use Rattle.pi_settling.specs.Confined.{confined_at, confined}
 use Rattle.pi_settling.specs.Asked.{Flat, flat, no_item, joined, flat_all, flat_parts, flat_variable, flat_for, flat_items, Asked, labels, raises, with_items, with_options, with_words, asked}
 use Rattle.pi_settling.proofs.ConfinedLemmas.{confining_binds_nothing, confined_have_domains, root-same}
-use Rattle.pi_label_laws.proofs.RankLemmas.{ComesOut}
 use Rattle.pi_label_laws.proofs.PickLemmas.{AreOut}
 
 -- an item comes to an unbound variable that was made, or to an integer

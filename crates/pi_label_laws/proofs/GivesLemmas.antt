@@ -1,13 +1,11 @@
 -- The answers of a labelling are exactly the assignments that extend to a solution, each once, in order.
-use Rattle.std.specs.Prelude.{◌≡◌, ◌⊎◌, ◌↔◌, ℕ, zero, suc, ◌<◌, ℤ, pos, List, [], ◌∷◌, length, map, get_or, All, AllPairs, Option, Some, None, Contains, refl}
+use Rattle.std.specs.Prelude.{◌≡◌, ◌⊎◌, ℕ, suc, ℤ, List, [], ◌∷◌, length, map, get_or, All, AllPairs, Option, Contains, refl}
 use Rattle.std.proofs.Common.{arith, sym, ◌∙◌, ap, subst, inl, inr}
 use Rattle.std.proofs.lemmas.List.{length-map, get_or-map}
 use Rattle.std.proofs.lemmas.List.Elements.{All-map}
-use Rattle.pi_terms.specs.Tree.{Tree}
 use Rattle.pi_constraints.specs.declared.constraint.Constraint.{Constraint}
 use Rattle.pi_constraints.specs.declared.constraint.Item.{Item}
-use Rattle.pi_constraints.specs.State.{State, Variable, free, within, bound, next, SpeaksBelow}
-use Rattle.pi_prop_spec.specs.Places.{places_of}
+use Rattle.pi_constraints.specs.State.{State, Variable, free, within, bound}
 use Rattle.pi_prop_spec.specs.Solutions.{value_of}
 use Rattle.pi_traces.specs.Trace.{Trace, end, note, ans, Done, answers, end_of}
 use Rattle.pi_settling.specs.Roots.{root_item}
@@ -15,11 +13,8 @@ use Rattle.pi_settling.specs.Stable.{IsStable}
 use Rattle.pi_settling.specs.Solves.{Solves}
 use Rattle.pi_settling.specs.SettlingLaws.{Settles}
 use Rattle.pi_settling.specs.Options.{Options, Objective}
-use Rattle.pi_settling.specs.Choices.{pending}
 use Rattle.pi_settling.specs.Confined.{with_default, confined_at, confined}
-use Rattle.pi_settling.specs.Asked.{asked, labels}
 use Rattle.pi_settling.specs.Label.{Settling, labelled_at}
-use Rattle.pi_settling.specs.Reading.{Solving}
 use Rattle.pi_settling.specs.Rounds.{solved_for, solved}
 use Rattle.pi_settling.specs.Assignments.{Extends, AreAllBy}
 use Rattle.pi_settling.specs.KeepLaws.{SolvesSome}
@@ -180,8 +175,7 @@ labelling_gives_the_solutions p s words vars asks none below settles runs m =
     let good : (x : Item) → Contains p.items x → IsGood s x = asked-good s words vars p.chosen_options p.items m.state below asks in
     let out : AreOut c p.items = good-out s p.items good in
     let all : Gives p.settle p.drains p.chosen_options p.items c = gives p.settle p.drains p.chosen_options p.items c settles runs (confined-goes_on s p.items m) out (answers-solved s p.items m out) in
-    let same : solved p all.depth s ≡ labelled_at p.settle p.drains p.chosen_options p.items all.depth c = ap (λ (o : Option Objective). solved_for p o all.depth s) none in
-    (
+    let same : solved p all.depth s ≡ labelled_at p.settle p.drains p.chosen_options p.items all.depth c = ap (λ (o : Option Objective). solved_for p o all.depth s) none in (
       all.depth,
       map (λ r. told_values r p.items) (answers (labelled_at p.settle p.drains p.chosen_options p.items all.depth c)),
       ap end_of same ∙ all.ends,

@@ -1,23 +1,22 @@
 -- What is posted and settled in a state that may be labelled leads to one that may be.
-use Rattle.std.specs.Prelude.{◌≡◌, ◌≢◌, ◌⊎◌, ℕ, zero, suc, ◌+◌, ◌<◌, ◌≤◌, ℤ, List, [], ◌∷◌, ◌++◌, length, map, Option, Some, None, Contains, refl}
+use Rattle.std.specs.Prelude.{◌≡◌, ◌≢◌, ◌⊎◌, ℕ, ◌<◌, ◌≤◌, List, ◌++◌, Some, None, Contains, refl}
 use Rattle.std.proofs.Common.{arith, sym, ◌∙◌, ap, subst, inl, inr}
 use Rattle.std.proofs.lemmas.List.Elements.{Contains-append_left, Contains-append_right, Contains-append_cases}
-use Rattle.pi_terms.specs.Tree.{int}
 use Rattle.pi_terms.specs.Places.{held}
 use Rattle.pi_constraints.specs.declared.constraint.Constraint.{Constraint}
 use Rattle.pi_constraints.specs.declared.constraint.Item.{Item}
 use Rattle.pi_constraints.specs.declared.domain.Span.{Span}
-use Rattle.pi_constraints.specs.State.{State, Variable, within, bound, free, binding, bindings, next, domain_in, domain_of, IsState}
+use Rattle.pi_constraints.specs.State.{State, Variable, binding, bindings, next, domain_in, IsState}
 use Rattle.pi_constraints.proofs.StateLemmas.{variable, held_is}
 use Rattle.pi_prop_spec.specs.Places.{places_of}
 use Rattle.pi_settling.specs.Roots.{root_item}
 use Rattle.pi_settling.specs.Stable.{Narrows, stays_free, stays_bound, some_stay, one_stays, IsStable}
 use Rattle.pi_settling.specs.SettlingLaws.{MaySettle}
 use Rattle.pi_settling.specs.CalmLaws.{MaySettleAfter}
-use Rattle.pi_settling.proofs.TwiceLemmas.{past_free, unbound-root, integer-root, later-root, stable_stays_stable}
+use Rattle.pi_settling.proofs.TwiceLemmas.{unbound-root, integer-root, later-root, stable_stays_stable}
 use Rattle.pi_settling.proofs.KeepLemmas.{stable_is_a_state, stable_may_settle}
 use Rattle.pi_settling.proofs.UniqueLemmas.{domain_made}
-use Rattle.pi_label_laws.specs.Made.{Makes, IsKnown, of_call, by_reading, AreKnown, MayLabel}
+use Rattle.pi_label_laws.specs.Made.{IsKnown, of_call, by_reading, AreKnown, MayLabel}
 use Rattle.pi_label_laws.specs.ReadingLaws.{IsMadeBy}
 use Rattle.pi_label_laws.proofs.RankLemmas.{HasDomain}
 use Rattle.pi_label_laws.proofs.RanksLemmas.{ranks, rank-old, rank-behind}

@@ -1,19 +1,21 @@
 -- States that labelling comes to, behind the one in which it began.
-use Rattle.std.specs.Prelude.{◌≡◌, ◌⊎◌, ℕ, ℤ, IsTrue, List, [], ◌∷◌, Option, Some, None, refl}
-use Rattle.std.proofs.Common.{arith, sym, ◌∙◌, ap, subst, inl, inr}
+use Rattle.std.specs.Prelude.{◌≡◌, ℕ, ℤ, IsTrue, List, [], ◌∷◌, Some, None, refl}
+use Rattle.std.proofs.Common.{sym, ◌∙◌, ap, subst, inl, inr}
 use Rattle.pi_terms.specs.Tree.{int}
+use Rattle.pi_terms.specs.Places.{held}
 use Rattle.pi_constraints.specs.declared.constraint.Item.{Item}
 use Rattle.pi_constraints.specs.declared.domain.Span.{Span}
 use Rattle.pi_constraints.specs.Domain.{IsDomain, has_value, values_of}
 use Rattle.pi_constraints.proofs.CommonLemmas.{first_value}
+use Rattle.pi_constraints.specs.Value.{Bindings}
 use Rattle.pi_constraints.specs.State.{State, bound, within, bindings, domain_of, with_domain, IsState}
-use Rattle.pi_constraints.proofs.StateLemmas.{held_is, same_or_not, domain_here, domain_elsewhere, domain_bindings, domain_unbound, domain_good}
+use Rattle.pi_constraints.proofs.StateLemmas.{held_is, held_elsewhere, same_or_not, domain_here, domain_elsewhere, domain_bindings, domain_unbound, domain_good}
 use Rattle.pi_settling.specs.Roots.{root_item}
 use Rattle.pi_settling.specs.Stable.{IsStable}
 use Rattle.pi_settling.specs.Solves.{Solves}
 use Rattle.pi_settling.specs.Choices.{Alternative, allows, left_by, with_values, narrowed_to}
-use Rattle.pi_settling.proofs.RootLemmas.{root_later}
-use Rattle.pi_settling.proofs.TwiceLemmas.{item_by, unbound-root, later-root}
+use Rattle.pi_settling.proofs.RootLemmas.{Kept, root_later}
+use Rattle.pi_settling.proofs.TwiceLemmas.{stable-keeps, item_by, unbound-root, later-root}
 use Rattle.pi_settling.proofs.KeepLemmas.{item-comes}
 use Rattle.pi_settling.proofs.UniqueLemmas.{domain_made}
 use Rattle.pi_settling.proofs.SolutionLemmas.{solutions_stay}
@@ -25,6 +27,7 @@ use Rattle.pi_label_laws.proofs.RankLemmas.{HasDomain, ComesOut}
 pub record Later (s r : State) : Type 0 where
   pub on : GoesOnFrom r
   pub constraints : r.constraints ≡ s.constraints
+  pub kept : Kept (bindings s) (bindings r)
   pub roots : (y : Item) → root_item r (root_item s y) ≡ root_item r y
   pub comes : (n : ℕ) → HasDomain s n → ComesOut r (Item.Var n)
   pub back : (a : ℕ → ℤ) → Solves r a → Solves s a
@@ -41,6 +44,7 @@ pub later-itself : (s : State) → GoesOnFrom s → Later s s
 later-itself s g = record {
   on = g;
   constraints = refl;
+  kept = λ n u h. h;
   roots = root-itself s g.state;
   comes = λ n has. inl (n, domain-root s n has.0 has.1, has);
   back = λ a h. h;
@@ -59,6 +63,7 @@ pub later-then : (s r q : State) → Later s r → Later r q → Later s q
 later-then s r q l m = record {
   on = m.on;
   constraints = m.constraints ∙ l.constraints;
+  kept = λ n u h. m.kept n u (l.kept n u h);
   roots = λ y. sym (m.roots (root_item s y)) ∙ (ap (root_item q) (l.roots y) ∙ m.roots y);
   comes = λ n has. comes-then s r q l m n (l.comes n has);
   back = λ a h. l.back a (m.back a h);
@@ -72,6 +77,7 @@ later-stable s r g f =
     record {
       on = on;
       constraints = f.constraints;
+      kept = stable-keeps s r f;
       roots = later-root s r g.state on.state f;
       comes = λ n has. elim (item-comes s r on.state f (Item.Var n) (inl (n, has.0, refl, has.1))) [
         | inl (v, d, e, there) ↦ inl (v, e, (d, there))
@@ -86,6 +92,12 @@ later-stable s r g f =
 pub record Narrows (s : State) (n : ℕ) (x : Alternative) (m : State) : Type 0 where
   pub later : Later s m
   pub allowed : (a : ℕ → ℤ) → Solves m a → IsTrue (allows x (a n))
+
+bound-kept : (s : State) (n : ℕ) (d : List Span) (i : ℤ) → Binds s n d i → Kept (bindings s) (bindings (behind s n i))
+bound-kept s n d i b k u e = elim (same_or_not k n) [
+  | inl here ↦ absurd (let none : held (bindings s) k ≡ None = ap (held (bindings s)) here ∙ domain_unbound s n d b.has in cc)
+  | inr other ↦ held_elsewhere s n (bound (int i)) k other ∙ e
+]
 
 bound-comes : (s : State) (n : ℕ) (d : List Span) (i : ℤ) → Binds s n d i → (k : ℕ) → HasDomain s k → ComesOut (behind s n i) (Item.Var k)
 bound-comes s n d i b k (f, at) = elim (same_or_not k n) [
@@ -115,6 +127,7 @@ narrowed-by s n d x g has (i ∷ []) e m same on back =
     subst (Later s) is (record {
       on = subst GoesOnFrom (sym is) on;
       constraints = refl;
+      kept = bound-kept s n d i b;
       roots = root-again s n d i b;
       comes = bound-comes s n d i b;
       back = λ a h. back a (subst (λ (q : State). Solves q a) is h);
@@ -125,6 +138,7 @@ narrowed-by s n d x g has (i ∷ j ∷ rest) e m same on back =
     subst (Later s) is (record {
       on = subst GoesOnFrom (sym is) on;
       constraints = refl;
+      kept = λ k u h. subst (λ (c : Bindings). held c k ≡ Some u) (sym (domain_bindings s n (left_by x d) (domain_unbound s n d has))) h;
       roots = λ y. root (root_item s y) ∙ (root-itself s g.state y ∙ sym (root y));
       comes = fewer-comes s n d (left_by x d) has;
       back = λ a h. back a (subst (λ (q : State). Solves q a) is h);

@@ -7,14 +7,14 @@ use Rattle.pi_constraints.specs.declared.constraint.Constraint.{Constraint}
 use Rattle.pi_constraints.specs.declared.constraint.Rel.{Rel}
 use Rattle.pi_constraints.specs.declared.constraint.Item.{Item}
 use Rattle.pi_constraints.specs.declared.domain.Span.{Span}
-use Rattle.pi_constraints.specs.Domain.{IsDomain, has_value}
+use Rattle.pi_constraints.specs.Domain.{has_value}
 use Rattle.pi_constraints.specs.Constraint.{SumHasVariable, IsSum, IsSumWithinLimits}
 use Rattle.pi_constraints.specs.State.{State, domain_of}
-use Rattle.pi_prop_spec.specs.Ends.{least_of, greatest_of, IsBetween, IsFixedTo}
+use Rattle.pi_prop_spec.specs.Ends.{greatest_of, IsBetween, IsFixedTo}
 use Rattle.pi_prop_spec.specs.Places.{sum_places, places_of, domain_at}
 use Rattle.pi_prop_spec.specs.Sums.{SumKeeps, OppositeKeeps}
 use Rattle.pi_prop_spec.specs.Rules.{least_corner, greatest_corner, ProductKeeps, magnitude, AbsoluteKeeps}
-use Rattle.pi_prop_spec.specs.Reified.{LeavesValues, of_terms, ReifiedKeeps}
+use Rattle.pi_prop_spec.specs.Reified.{LeavesValues, ReifiedKeeps}
 use Rattle.pi_prop_spec.specs.Filter.{RuleKeeps, PlaceKeeps}
 use Rattle.pi_prop_spec.specs.Solutions.{value_of, sum_of, Stands, Holds}
 use Rattle.pi_prop_spec.proofs.SumLaws.{HasFixed, sum-decided, opposite-decided}
@@ -25,7 +25,7 @@ use Rattle.pi_settling.proofs.StableLemmas.{has-only}
 use Rattle.pi_settling.proofs.TwiceLemmas.{left, has_in}
 use Rattle.pi_label_laws.specs.Made.{IsMadeIn, in_sum, as_product, as_absolute, as_truth}
 use Rattle.pi_label_laws.proofs.RestLemmas.{Rests, IsTold, valued, valued-item, is_posted, IsOnly, told-only, read_at, rest-leaves, left-variable, only-fixed, all_told-holds}
-use Rattle.pi_label_laws.proofs.OthersLemmas.{OthersFixed, stands-by_others, place_or_none, one-place, length-sum_places, has-place, is-term, has-variable, place-at}
+use Rattle.pi_label_laws.proofs.OthersLemmas.{stands-by_others, place_or_none, one-place, length-sum_places, has-place, is-term, has-variable, place-at}
 
 -- a variable comes to one that isn't bound, of which a value is left
 pub record OpenAt (r : State) (m v : ℕ) (d : List Span) (i : ℤ) : Type 0 where
@@ -107,8 +107,8 @@ sum-holds r m v d i rel ts constant o posted others =
     elim (place_or_none ts m) [
       | inl (k, l, at) ↦ sum-at r m v d i rel ts constant k o posted others limits.2 l at
       | inr none ↦ all_told-holds r (λ n. i) c o.rests posted (λ y at.
-      let there = is-term ts y at in
-      others y at (λ e. variable-not (variable_at ts there.0) m (none there.0 there.1) (sym there.2 ∙ e)))
+          let there = is-term ts y at in
+          others y at (λ e. variable-not (variable_at ts there.0) m (none there.0 there.1) (sym there.2 ∙ e)))
     ]
 
 -- ---- products and absolute values

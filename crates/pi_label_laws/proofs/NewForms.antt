@@ -1,22 +1,20 @@
 -- The constraints that a reading posts of a new variable make its value.
-use Rattle.std.specs.Prelude.{◌≡◌, ◌≢◌, ◌⊎◌, ℕ, zero, suc, ◌<◌, ◌≤◌, nat_lt, Bool, true, false, cond, List, [], ◌∷◌, ◌++◌, length, ℤ, pos, neg_ℤ, ◌+ℤ◌, ◌-ℤ◌, ◌*ℤ◌, ◌≤ℤ◌, Contains, refl}
+use Rattle.std.specs.Prelude.{◌≡◌, ◌≢◌, ◌⊎◌, ℕ, zero, suc, ◌<◌, ◌≤◌, nat_lt, true, false, cond, List, [], ◌∷◌, ℤ, pos, ◌-ℤ◌, ◌*ℤ◌, Contains, refl}
 use Rattle.std.proofs.Common.{arith, tests, sym, ◌∙◌, ap, subst, inl, inr}
-use Rattle.std.proofs.lemmas.Bool.{cases_Bool}
 use Rattle.std.proofs.lemmas.Int.{ints}
 use Rattle.pi_constraints.specs.declared.constraint.Rel.{Rel}
 use Rattle.pi_constraints.specs.declared.constraint.Item.{Item}
 use Rattle.pi_constraints.specs.declared.constraint.Constraint.{Constraint}
-use Rattle.pi_constraints.specs.Constraint.{SumHasVariable}
-use Rattle.pi_prop_spec.specs.Places.{sum_places, places_of}
+use Rattle.pi_prop_spec.specs.Places.{places_of}
 use Rattle.pi_prop_spec.specs.Rules.{magnitude}
-use Rattle.pi_prop_spec.specs.Solutions.{value_of, sum_of, Stands, Holds}
-use Rattle.pi_prop_spec.specs.PostingSums.{Sum, of_number, of_variable, of_item, added, difference, sum_value}
+use Rattle.pi_prop_spec.specs.Solutions.{value_of, Holds}
+use Rattle.pi_prop_spec.specs.PostingSums.{Sum, of_variable, difference, sum_value}
 use Rattle.pi_prop_spec.specs.Steps.{linear}
 use Rattle.pi_prop_spec.specs.Says.{AgreeBelow}
-use Rattle.pi_prop_spec.proofs.PostingSumLemmas.{sums_add, value-difference, value-of_variable, value-of_number, value-of_item}
-use Rattle.pi_prop_spec.proofs.FormLemmas.{IsJoined, ascend_below, joined-added, joined-difference, joined-of_number, joined-of_variable, joined-of_item, ItemBelow, variables_below, sum_values_agree, items_agree}
+use Rattle.pi_prop_spec.proofs.PostingSumLemmas.{value-difference, value-of_variable}
+use Rattle.pi_prop_spec.proofs.FormLemmas.{IsJoined, ascend_below, joined-difference, joined-of_variable, variables_below, sum_values_agree}
 use Rattle.pi_prop_spec.proofs.SumLemmas.{variable_at}
-use Rattle.pi_label_laws.specs.Made.{IsMadeIn, in_sum, as_product, as_absolute, as_truth, AgreeBeside, Makes}
+use Rattle.pi_label_laws.specs.Made.{IsMadeIn, in_sum, as_product, as_absolute, AgreeBeside, Makes}
 use Rattle.pi_label_laws.proofs.OthersLemmas.{is-term, has-variable}
 use Rattle.pi_label_laws.proofs.AgreeLemmas.{holds-agrees}
 

@@ -1,22 +1,21 @@
 -- Each new variable of a posting is made by what is posted of it: relations, Boolean expressions and lists.
-use Rattle.std.specs.Prelude.{◌≡◌, ⊤, ℕ, zero, suc, ◌+◌, ◌-◌, ◌<◌, ◌≤◌, List, [], ◌∷◌, ℤ, pos, negsuc, Option, Some, None, Result, Ok, Err, Contains, refl}
-use Rattle.std.proofs.Common.{arith, sym, ◌∙◌, ap, subst, inl, inr}
+use Rattle.std.specs.Prelude.{◌≡◌, ⊤, ℕ, zero, suc, ◌-◌, ◌<◌, ◌≤◌, List, [], ◌∷◌, ℤ, pos, negsuc, Option, Some, None, Result, Ok, Err, refl}
+use Rattle.std.proofs.Common.{arith, ap, subst}
 use Rattle.pi_terms.specs.Tree.{Tree, var, int, atom, comp}
 use Rattle.pi_constraints.specs.declared.constraint.Rel.{Rel}
 use Rattle.pi_constraints.specs.declared.constraint.Item.{Item}
 use Rattle.pi_constraints.specs.declared.constraint.Constraint.{Constraint}
-use Rattle.pi_constraints.specs.State.{SpeaksBelow}
 use Rattle.pi_effects.specs.Items.{collection_items}
 use Rattle.pi_prop_spec.specs.Operands.{Operand, Comparison, equal, unequal, less, at_most, greater, at_least, Connective, and, or, either, implies, equivalent, Boolean, truth_variable, truth_number, relation, negation, joined, no_boolean, Goal, relates, is_so, all_different, all_distinct, element, no_constraint}
-use Rattle.pi_prop_spec.specs.PostingSums.{Sum, of_number, of_variable, of_item, added, difference}
-use Rattle.pi_prop_spec.specs.Steps.{Refusal, not_a_constraint, Made, Known, Reading, gives, refuses, then, new_variable, posting, linear, step, read_operand}
-use Rattle.pi_prop_spec.specs.Relations.{Standing, relation_of, sides_apart, and_apart, read_relation, stands, posts_never, posts_by_terms, posts_standing, posts_relation}
-use Rattle.pi_prop_spec.specs.Truths.{truth_variable_is, new_truth, truth_number_is, bit, truth_by_terms, truth_of_standing, truth_of_negation, truth_of_joined, read_truth, posts_truth}
-use Rattle.pi_prop_spec.specs.Lists.{read_item, read_each, items_or_refused, read_collection, posts_different, posts_distinct, posts_element}
+use Rattle.pi_prop_spec.specs.PostingSums.{Sum, of_number, of_variable, of_item, difference}
+use Rattle.pi_prop_spec.specs.Steps.{Refusal, not_a_constraint, Known, Reading, gives, then, posting, linear, step, read_operand}
+use Rattle.pi_prop_spec.specs.Relations.{Standing, relation_of, sides_apart, and_apart, read_relation, stands, posts_never, posts_by_terms, posts_standing}
+use Rattle.pi_prop_spec.specs.Truths.{truth_variable_is, truth_number_is, bit, truth_by_terms, truth_of_standing, truth_of_negation, truth_of_joined, read_truth}
+use Rattle.pi_prop_spec.specs.Lists.{read_item, read_each, items_or_refused, read_collection, posts_element}
 use Rattle.pi_prop_spec.specs.Terms.{operand_of, goal_of}
 use Rattle.pi_prop_spec.specs.Limits.{first_refusal}
 use Rattle.pi_prop_spec.specs.Postings.{Posting, read_goal, nothing_made, posting_unless, finished, posting_of}
-use Rattle.pi_prop_spec.proofs.FormLemmas.{IsJoined, ascend_below, joined-added, joined-difference, joined-of_number, joined-of_variable, joined-of_item, ItemBelow}
+use Rattle.pi_prop_spec.proofs.FormLemmas.{IsJoined, ascend_below, joined-added, joined-difference, joined-of_number, joined-of_item, ItemBelow}
 use Rattle.pi_prop_spec.proofs.OperandLemmas.{OperandBelow}
 use Rattle.pi_prop_spec.proofs.BooleanLemmas.{BooleanBelow}
 use Rattle.pi_prop_spec.proofs.TermLemmas.{operand-below, GoalBelow, goal-below}

@@ -1,18 +1,16 @@
 -- Each new variable of a reading is made by what is posted of it.
-use Rattle.std.specs.Prelude.{◌≡◌, ◌⊎◌, ⊤, ℕ, zero, suc, ◌<◌, ◌≤◌, Bool, true, false, ◌&&◌, cond, List, [], ◌∷◌, ◌++◌, length, ℤ, pos, negsuc, Option, Some, None, Ok, Contains, refl}
+use Rattle.std.specs.Prelude.{◌≡◌, ◌⊎◌, ⊤, ℕ, zero, suc, ◌<◌, ◌≤◌, Bool, true, false, ◌&&◌, cond, List, [], ◌∷◌, ◌++◌, ℤ, pos, negsuc, Option, Some, None, Ok, Contains, refl}
 use Rattle.std.specs.Ordering.{int_eq}
-use Rattle.std.proofs.Common.{arith, sym, ◌∙◌, ap, subst, inl, inr}
+use Rattle.std.proofs.Common.{arith, sym, ◌∙◌, subst, inl, inr}
 use Rattle.std.proofs.lemmas.List.Elements.{Contains-append_left, Contains-append_right}
-use Rattle.pi_terms.specs.Tree.{Tree, var, int, atom, comp}
 use Rattle.pi_constraints.specs.declared.constraint.Rel.{Rel}
 use Rattle.pi_constraints.specs.declared.constraint.Item.{Item}
 use Rattle.pi_constraints.specs.declared.constraint.Constraint.{Constraint}
 use Rattle.pi_effects.specs.Range.{has_128_bits}
-use Rattle.pi_effects.specs.Items.{collection_items}
 use Rattle.pi_prop_spec.specs.Rules.{magnitude}
 use Rattle.pi_prop_spec.specs.Operands.{Operand, number, variable, plus, minus, times, positive, negative, absolute, total, no_operand, Operands, no_operands, operand}
 use Rattle.pi_prop_spec.specs.PostingSums.{Sum, of_number, of_variable, added, scaled, opposite, difference}
-use Rattle.pi_prop_spec.specs.Steps.{Refusal, not_a_constraint, wide_coefficient, Made, Known, Reading, gives, refuses, then, new_variable, posting, linear, have_128_bits, step, constant_of, variable_of_terms, variable_of, side_by, side, product_variable, product_by, product, absolute_variable, absolute_by, absolute_sum, read_operand, read_items}
+use Rattle.pi_prop_spec.specs.Steps.{Refusal, not_a_constraint, wide_coefficient, Made, Known, Reading, gives, refuses, then, posting, linear, have_128_bits, step, constant_of, variable_of_terms, variable_of, side_by, side, product_variable, product_by, product, absolute_variable, absolute_by, absolute_sum, read_operand, read_items}
 use Rattle.pi_prop_spec.proofs.FormLemmas.{AscendBelow, IsJoined, ascend_below, joined-added, joined-scaled, joined-difference, joined-of_number, joined-of_variable}
 use Rattle.pi_prop_spec.proofs.GrowLemmas.{with_all, after_is, is_known}
 use Rattle.pi_prop_spec.proofs.OperandLemmas.{OperandBelow, OperandsBelow}

@@ -1,20 +1,19 @@
 -- The constraints that a reading posts of a new truth make its value.
-use Rattle.std.specs.Prelude.{◌≡◌, ◌≢◌, ◌⊎◌, ℕ, zero, suc, ◌<◌, ◌≤◌, List, [], ◌∷◌, length, ℤ, pos, ◌+ℤ◌, ◌-ℤ◌, ◌≤ℤ◌, Contains, refl}
+use Rattle.std.specs.Prelude.{◌≡◌, ◌⊎◌, ℕ, zero, suc, ◌<◌, ◌≤◌, List, [], ◌∷◌, ℤ, pos, ◌+ℤ◌, ◌-ℤ◌, ◌≤ℤ◌, Contains, refl}
 use Rattle.std.proofs.Common.{arith, sym, ◌∙◌, ap, subst, inl, inr}
 use Rattle.std.proofs.lemmas.Int.{ints}
 use Rattle.pi_constraints.specs.declared.constraint.Rel.{Rel}
 use Rattle.pi_constraints.specs.declared.constraint.Item.{Item}
 use Rattle.pi_constraints.specs.declared.constraint.Constraint.{Constraint}
 use Rattle.pi_constraints.specs.Constraint.{SumHasVariable}
-use Rattle.pi_prop_spec.specs.Places.{sum_places, places_of}
-use Rattle.pi_prop_spec.specs.Solutions.{value_of, sum_of, Stands, Holds}
+use Rattle.pi_prop_spec.specs.Places.{places_of}
+use Rattle.pi_prop_spec.specs.Solutions.{value_of, Stands, Holds}
 use Rattle.pi_prop_spec.specs.PostingSums.{Sum, of_number, of_variable, of_item, added, difference, sum_value}
 use Rattle.pi_prop_spec.specs.Steps.{linear}
-use Rattle.pi_prop_spec.specs.Says.{AgreeBelow}
 use Rattle.pi_prop_spec.proofs.PostingSumLemmas.{sums_add, value-difference, value-of_variable, value-of_number, value-of_item}
 use Rattle.pi_prop_spec.proofs.FormLemmas.{IsJoined, joined-added, joined-difference, joined-of_number, joined-of_variable, joined-of_item, ItemBelow, variables_below, sum_values_agree, items_agree}
 use Rattle.pi_label_laws.specs.Made.{IsMadeIn, as_truth}
-use Rattle.pi_label_laws.proofs.NewForms.{HoldAll, MakesNew, joined-more, IsSumOf, EachOf, a-sum, each-of, by-sums, sum-made, is-below}
+use Rattle.pi_label_laws.proofs.NewForms.{HoldAll, MakesNew, joined-more, IsSumOf, EachOf, a-sum, by-sums, sum-made, is-below}
 
 -- ---- what sums say
 
@@ -164,13 +163,26 @@ both-makes n x y p q =
       less-says a t (of_item x) (a n) vx (value-of_variable a n) (value-of_item a x ∙ ex) (h (at_most (difference t (of_item x))) (2, omega arith, refl)),
       less-says a t (of_item y) (a n) vy (value-of_variable a n) (value-of_item a y ∙ ey) (h (at_most (difference t (of_item y))) (3, omega arith, refl)),
       less-says a (difference s t) (of_number (pos 1)) ((vx +ℤ vy) -ℤ a n) (pos 1)
-      (difference-is a s t (vx +ℤ vy) (a n) (added-is a (of_item x) (of_item y) vx vy (value-of_item a x ∙ ex) (value-of_item a y ∙ ey)) (value-of_variable a n)) (value-of_number a (pos 1))
-      (h (at_most (difference (difference s t) (of_number (pos 1)))) (4, omega arith, refl)),
+          (difference-is a s t (vx +ℤ vy) (a n) (added-is a (of_item x) (of_item y) vx vy (value-of_item a x ∙ ex) (value-of_item a y ∙ ey)) (value-of_variable a n)) (value-of_number a (pos 1))
+          (h (at_most (difference (difference s t) (of_number (pos 1)))) (4, omega arith, refl)),
     ) in
-    by-sums n (both_truth n x y)
-    (upper-sum n, (lower-sum n, (a-sum n Rel.AtMost (difference t (of_item x)) (joined-difference (suc n) t (of_item x) jt jx), (a-sum n Rel.AtMost (difference t (of_item y)) (joined-difference (suc n) t (of_item y) jt jy),
-    (a-sum n Rel.AtMost (difference (difference s t) (of_number (pos 1)))
-    (joined-difference (suc n) (difference s t) (of_number (pos 1)) (joined-difference (suc n) s t (joined-added (suc n) (of_item x) (of_item y) jx jy) jt) (joined-of_number (suc n) (pos 1))), tt)))))
+    by-sums n (both_truth n x y) (
+      upper-sum n,
+      (
+        lower-sum n,
+        (
+          a-sum n Rel.AtMost (difference t (of_item x)) (joined-difference (suc n) t (of_item x) jt jx),
+          (
+            a-sum n Rel.AtMost (difference t (of_item y)) (joined-difference (suc n) t (of_item y) jt jy),
+            (
+              a-sum n Rel.AtMost (difference (difference s t) (of_number (pos 1)))
+                  (joined-difference (suc n) (difference s t) (of_number (pos 1)) (joined-difference (suc n) s t (joined-added (suc n) (of_item x) (of_item y) jx jy) jt) (joined-of_number (suc n) (pos 1))),
+              tt,
+            ),
+          ),
+        ),
+      ),
+    )
     (λ a b h k g.
     let f = one a (value_of a x) (value_of a y) refl refl h in
     let l = one b (value_of a x) (value_of a y) (items_agree n x a b p g) (items_agree n y a b q g) k in
@@ -196,11 +208,21 @@ either-makes n x y p q =
       less-says a (of_item x) t vx (a n) (value-of_item a x ∙ ex) (value-of_variable a n) (h (at_most (difference (of_item x) t)) (2, omega arith, refl)),
       less-says a (of_item y) t vy (a n) (value-of_item a y ∙ ey) (value-of_variable a n) (h (at_most (difference (of_item y) t)) (3, omega arith, refl)),
       less-says a (difference t (of_item x)) (of_item y) (a n -ℤ vx) vy (difference-is a t (of_item x) (a n) vx (value-of_variable a n) (value-of_item a x ∙ ex)) (value-of_item a y ∙ ey)
-      (h (at_most (difference (difference t (of_item x)) (of_item y))) (4, omega arith, refl)),
+          (h (at_most (difference (difference t (of_item x)) (of_item y))) (4, omega arith, refl)),
     ) in
-    by-sums n (either_truth n x y)
-    (upper-sum n, (lower-sum n, (a-sum n Rel.AtMost (difference (of_item x) t) (joined-difference (suc n) (of_item x) t jx jt), (a-sum n Rel.AtMost (difference (of_item y) t) (joined-difference (suc n) (of_item y) t jy jt),
-    (a-sum n Rel.AtMost (difference (difference t (of_item x)) (of_item y)) (joined-difference (suc n) (difference t (of_item x)) (of_item y) (joined-difference (suc n) t (of_item x) jt jx) jy), tt)))))
+    by-sums n (either_truth n x y) (
+      upper-sum n,
+      (
+        lower-sum n,
+        (
+          a-sum n Rel.AtMost (difference (of_item x) t) (joined-difference (suc n) (of_item x) t jx jt),
+          (
+            a-sum n Rel.AtMost (difference (of_item y) t) (joined-difference (suc n) (of_item y) t jy jt),
+            (a-sum n Rel.AtMost (difference (difference t (of_item x)) (of_item y)) (joined-difference (suc n) (difference t (of_item x)) (of_item y) (joined-difference (suc n) t (of_item x) jt jx) jy), tt),
+          ),
+        ),
+      ),
+    )
     (λ a b h k g.
     let f = one a (value_of a x) (value_of a y) refl refl h in
     let l = one b (value_of a x) (value_of a y) (items_agree n x a b p g) (items_agree n y a b q g) k in
@@ -226,18 +248,29 @@ implied-makes n x y p q =
     let one : (a : ℕ → ℤ) (vx vy : ℤ) → value_of a x ≡ vx → value_of a y ≡ vy → HoldAll (implied_truth n x y) a → (((pos 1 -ℤ vx) -ℤ a n) ≤ℤ pos 0) × ((vy -ℤ a n) ≤ℤ pos 0) × ((((a n +ℤ vx) -ℤ vy) -ℤ pos 1) ≤ℤ pos 0) =
     λ a vx vy ex ey h. (
       less-says a (difference i (of_item x)) t (pos 1 -ℤ vx) (a n) (difference-is a i (of_item x) (pos 1) vx (value-of_number a (pos 1)) (value-of_item a x ∙ ex)) (value-of_variable a n)
-      (h (at_most (difference (difference i (of_item x)) t)) (2, omega arith, refl)),
+          (h (at_most (difference (difference i (of_item x)) t)) (2, omega arith, refl)),
       less-says a (of_item y) t vy (a n) (value-of_item a y ∙ ey) (value-of_variable a n) (h (at_most (difference (of_item y) t)) (3, omega arith, refl)),
       less-says a (difference (added t (of_item x)) (of_item y)) i ((a n +ℤ vx) -ℤ vy) (pos 1)
-      (difference-is a (added t (of_item x)) (of_item y) (a n +ℤ vx) vy (added-is a t (of_item x) (a n) vx (value-of_variable a n) (value-of_item a x ∙ ex)) (value-of_item a y ∙ ey)) (value-of_number a (pos 1))
-      (h (at_most (difference (difference (added t (of_item x)) (of_item y)) i)) (4, omega arith, refl)),
+          (difference-is a (added t (of_item x)) (of_item y) (a n +ℤ vx) vy (added-is a t (of_item x) (a n) vx (value-of_variable a n) (value-of_item a x ∙ ex)) (value-of_item a y ∙ ey)) (value-of_number a (pos 1))
+          (h (at_most (difference (difference (added t (of_item x)) (of_item y)) i)) (4, omega arith, refl)),
     ) in
-    by-sums n (implied_truth n x y)
-    (upper-sum n, (lower-sum n,
-    (a-sum n Rel.AtMost (difference (difference i (of_item x)) t) (joined-difference (suc n) (difference i (of_item x)) t (joined-difference (suc n) i (of_item x) ji jx) jt),
-    (a-sum n Rel.AtMost (difference (of_item y) t) (joined-difference (suc n) (of_item y) t jy jt),
-    (a-sum n Rel.AtMost (difference (difference (added t (of_item x)) (of_item y)) i)
-    (joined-difference (suc n) (difference (added t (of_item x)) (of_item y)) i (joined-difference (suc n) (added t (of_item x)) (of_item y) (joined-added (suc n) t (of_item x) jt jx) jy) ji), tt)))))
+    by-sums n (implied_truth n x y) (
+      upper-sum n,
+      (
+        lower-sum n,
+        (
+          a-sum n Rel.AtMost (difference (difference i (of_item x)) t) (joined-difference (suc n) (difference i (of_item x)) t (joined-difference (suc n) i (of_item x) ji jx) jt),
+          (
+            a-sum n Rel.AtMost (difference (of_item y) t) (joined-difference (suc n) (of_item y) t jy jt),
+            (
+              a-sum n Rel.AtMost (difference (difference (added t (of_item x)) (of_item y)) i)
+                  (joined-difference (suc n) (difference (added t (of_item x)) (of_item y)) i (joined-difference (suc n) (added t (of_item x)) (of_item y) (joined-added (suc n) t (of_item x) jt jx) jy) ji),
+              tt,
+            ),
+          ),
+        ),
+      ),
+    )
     (λ a b h k g.
     let f = one a (value_of a x) (value_of a y) refl refl h in
     let l = one b (value_of a x) (value_of a y) (items_agree n x a b p g) (items_agree n y a b q g) k in

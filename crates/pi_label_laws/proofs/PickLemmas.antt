@@ -1,9 +1,9 @@
 -- Which items are pending, and in what order two answers stand whose values differ at the item that was picked.
-use Rattle.std.specs.Prelude.{◌≡◌, ◌≢◌, ◌⊎◌, ℕ, zero, suc, ◌<◌, nat_lt, ℤ, pos, ◌<ℤ◌, Bool, true, false, cond, List, [], ◌∷◌, length, map, get_or, Option, Some, None, Contains, ⊤, refl}
+use Rattle.std.specs.Prelude.{◌≡◌, ◌≢◌, ℕ, zero, suc, nat_lt, ℤ, pos, ◌<ℤ◌, Bool, true, false, cond, List, [], ◌∷◌, map, get_or, Option, Some, None, Contains, ⊤, refl}
 use Rattle.std.specs.List.{cons_option, last_or}
 use Rattle.std.proofs.Common.{arith, sym, ◌∙◌, ap, subst, inl, inr}
 use Rattle.std.proofs.lemmas.Int.{ints}
-use Rattle.std.proofs.lemmas.List.{get_or-map, get_or_default}
+use Rattle.std.proofs.lemmas.List.{get_or-map}
 use Rattle.pi_constraints.specs.declared.constraint.Item.{Item}
 use Rattle.pi_constraints.specs.declared.domain.Span.{Span}
 use Rattle.pi_constraints.specs.Domain.{size_of}

@@ -1,5 +1,5 @@
 -- What a goal posts in a state: constraints over the variables of its term and new ones.
-use Rattle.std.specs.Prelude.{◌≡◌, ◌⊎◌, ℕ, zero, suc, ◌+◌, ◌<◌, ◌≤◌, List, [], ◌∷◌, ◌++◌, length, map, Option, Some, None, unwrap_or, Contains, Ok, refl}
+use Rattle.std.specs.Prelude.{◌≡◌, ℕ, zero, suc, ◌+◌, ◌<◌, ◌≤◌, List, [], ◌∷◌, ◌++◌, length, map, Option, Some, None, unwrap_or, Contains, Ok, refl}
 use Rattle.std.proofs.Common.{arith, sym, ◌∙◌, ap, subst, inl, inr, append_assoc, append-nil}
 use Rattle.std.proofs.lemmas.List.Elements.{Contains-append_right}
 use Rattle.pi_terms.specs.Tree.{Tree, var}
@@ -8,7 +8,7 @@ use Rattle.pi_terms.specs.Variables.{Occurs}
 use Rattle.pi_constraints.specs.declared.constraint.Constraint.{Constraint}
 use Rattle.pi_constraints.specs.declared.constraint.Item.{Item}
 use Rattle.pi_constraints.specs.Value.{Bindings, replaced_once, rounds, value}
-use Rattle.pi_constraints.specs.State.{State, binding, bindings, next, domain_of, with_constraint, SpeaksBelow, IsState}
+use Rattle.pi_constraints.specs.State.{State, binding, bindings, next, with_constraint, SpeaksBelow, IsState}
 use Rattle.pi_constraints.specs.Evaluation.{with_new_variables}
 use Rattle.pi_constraints.proofs.KeepsLemmas.{news-next}
 use Rattle.pi_constraints.proofs.StateLemmas.{held_is, bound_below}
@@ -29,7 +29,6 @@ use Rattle.pi_settling.proofs.CalmFollowed.{with-variables}
 use Rattle.pi_settling.proofs.CalmPosted.{posted_may_settle}
 use Rattle.pi_settling.proofs.CalmReads.{ItemOnly, PlacesOnly, Each, AllOnly}
 use Rattle.pi_settling.proofs.CalmTerms.{goal-reads}
-use Rattle.pi_label_laws.specs.Made.{MayLabel}
 use Rattle.pi_label_laws.specs.LabelledLaws.{AreAmong, PostingsMayBeLabelled}
 use Rattle.pi_label_laws.proofs.GivesLemmas.{confined-constraints}
 use Rattle.pi_label_laws.proofs.LabelledLemmas.{PostsNew, same-number, posts-new-labelled}

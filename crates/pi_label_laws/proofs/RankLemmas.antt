@@ -1,20 +1,20 @@
 -- Where all items of the call come to integers in a stable state, all items of posted constraints do.
-use Rattle.std.specs.Prelude.{◌≡◌, ◌≢◌, ◌⊎◌, ℕ, zero, suc, ◌<◌, ◌≤◌, ℤ, IsTrue, List, [], ◌∷◌, length, Some, Contains, refl}
-use Rattle.std.proofs.Common.{arith, sym, ◌∙◌, ap, subst, inl, inr}
+use Rattle.std.specs.Prelude.{◌≡◌, ◌⊎◌, ℕ, zero, suc, ◌<◌, ◌≤◌, ℤ, IsTrue, List, [], ◌∷◌, length, Some, Contains, refl}
+use Rattle.std.proofs.Common.{arith, sym, ◌∙◌, ap, inl, inr}
 use Rattle.pi_constraints.specs.declared.constraint.Constraint.{Constraint}
 use Rattle.pi_constraints.specs.declared.constraint.Item.{Item}
 use Rattle.pi_constraints.specs.declared.domain.Span.{Span}
-use Rattle.pi_constraints.specs.Domain.{IsWithinBounds, IsDomain, has_value, values_of, size_of}
+use Rattle.pi_constraints.specs.Domain.{IsDomain, has_value, values_of, size_of}
 use Rattle.pi_constraints.specs.State.{State, domain_of}
 use Rattle.pi_constraints.proofs.CommonLemmas.{first_value}
 use Rattle.pi_constraints.proofs.StateLemmas.{domain_good}
 use Rattle.pi_prop_spec.specs.Places.{places_of}
-use Rattle.pi_prop_spec.specs.Solutions.{value_of, Holds}
+use Rattle.pi_prop_spec.specs.Solutions.{Holds}
 use Rattle.pi_settling.specs.Roots.{root_item}
 use Rattle.pi_settling.specs.SettlingLaws.{MaySettle}
 use Rattle.pi_settling.proofs.UniqueLemmas.{not_one}
 use Rattle.pi_label_laws.specs.Made.{Makes, IsKnown, of_call, by_reading, AreKnown}
-use Rattle.pi_label_laws.proofs.RestLemmas.{Rests, IsTold, valued, valued-told}
+use Rattle.pi_label_laws.proofs.RestLemmas.{Rests, IsTold, valued-told}
 use Rattle.pi_label_laws.proofs.MadeLemmas.{OpenAt, with_value, OthersTold, value-here, made-holds}
 
 -- a variable has a domain
@@ -83,9 +83,9 @@ known-told s r items rank b may known call (suc bound) n l has (of_call x at e) 
 known-told s r items rank b may known call (suc bound) n l has (by_reading m cs posted makes e lower) = elim (b.comes n has) [
   | inr told ↦ told
   | inl (v, root, dom) ↦ absurd (made-told s r m v dom.0 cs b posted makes
-  (λ c at y place apart. place-told s r items rank b may known bound (known-told s r items rank b may known call bound) c y (posted c at) place
-  (λ k f. let below : rank k < rank n = lower c y k at place apart f in omega arith))
-  (sym (b.roots (Item.Var m)) ∙ (ap (root_item r) e ∙ root)) dom.1)
+      (λ c at y place apart. place-told s r items rank b may known bound (known-told s r items rank b may known call bound) c y (posted c at) place
+      (λ k f. let below : rank k < rank n = lower c y k at place apart f in omega arith))
+      (sym (b.roots (Item.Var m)) ∙ (ap (root_item r) e ∙ root)) dom.1)
 ]
 
 pub all-told : (s r : State) (items : List Item) (rank : ℕ → ℕ) → Behind s r → MaySettle s → AreKnown s items rank → CallTold r items → (c : Constraint) (y : Item) → Contains s.constraints c → Contains (places_of c) y → IsTold r y

@@ -1,6 +1,6 @@
 -- Ranks of old variables and of new ones, which stand behind.
 use Rattle.std.specs.Prelude.{◌≡◌, ◌⊎◌, ℕ, zero, suc, ◌+◌, ◌<◌, ◌≤◌, nat_lt, true, false, cond, refl}
-use Rattle.std.proofs.Common.{arith, tests, sym, ◌∙◌, ap, subst, inl, inr}
+use Rattle.std.proofs.Common.{arith, tests, sym, subst, inl, inr}
 
 -- above the ranks of all numbers below one
 most : (ℕ → ℕ) → ℕ → ℕ

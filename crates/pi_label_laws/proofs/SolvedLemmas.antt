@@ -1,6 +1,6 @@
 -- A stable state in which all items of posted constraints come to integers has a solution.
-use Rattle.std.specs.Prelude.{◌≡◌, ℕ, ◌≤◌, ℤ, IsTrue, List, [], length, Some, Contains, refl}
-use Rattle.std.proofs.Common.{arith, sym, ◌∙◌, ap, subst, inl, inr}
+use Rattle.std.specs.Prelude.{◌≡◌, ℕ, ◌≤◌, ℤ, IsTrue, List, Some, Contains}
+use Rattle.std.proofs.Common.{arith, sym, ◌∙◌, ap, subst}
 use Rattle.pi_constraints.specs.declared.constraint.Constraint.{Constraint}
 use Rattle.pi_constraints.specs.declared.constraint.Item.{Item}
 use Rattle.pi_constraints.specs.declared.domain.Span.{Span}
@@ -12,7 +12,7 @@ use Rattle.pi_prop_spec.specs.Ends.{least_of}
 use Rattle.pi_prop_spec.specs.Places.{places_of}
 use Rattle.pi_prop_spec.specs.Solutions.{value_of}
 use Rattle.pi_prop_spec.proofs.EndLemmas.{least-has}
-use Rattle.pi_settling.specs.Roots.{root_item, only, domain_or_all, given, Counts, by_domain, by_place}
+use Rattle.pi_settling.specs.Roots.{root_item, domain_or_all, given, Counts, by_domain, by_place}
 use Rattle.pi_settling.specs.Solves.{Solves}
 use Rattle.pi_settling.proofs.StableLemmas.{only-has}
 use Rattle.pi_settling.proofs.TwiceLemmas.{unbound-root, has_in}

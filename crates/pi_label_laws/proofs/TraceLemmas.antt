@@ -1,9 +1,9 @@
 -- What holds of the answers of a trace, and of each answer and those behind it.
-use Rattle.std.specs.Prelude.{◌≡◌, ℕ, zero, suc, List, [], ◌∷◌, length, All, AllPairs, ⊤, refl}
-use Rattle.std.proofs.Common.{arith, ap}
+use Rattle.std.specs.Prelude.{ℕ, zero, suc, All, AllPairs, ⊤}
+use Rattle.std.proofs.Common.{arith}
 use Rattle.std.proofs.lemmas.List.Elements.{All-cons}
 use Rattle.std.proofs.lemmas.List.Kept.{AllPairs-cons}
-use Rattle.pi_traces.specs.Trace.{Trace, end, note, ans, Done, Load, done, alt, answers, end_of}
+use Rattle.pi_traces.specs.Trace.{Trace, end, note, ans, Done, alt, answers}
 use Rattle.pi_settling.specs.Settled.{loaded}
 
 unfoldable pub EachAnswer : {A : Type 0} → (A → Type 0) → Trace A → Type 0
