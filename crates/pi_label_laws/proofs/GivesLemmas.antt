@@ -89,7 +89,7 @@ answers-solved s items m out r a =
 
 -- ---- what they tell
 
-roots-told : (r : State) (items : List Item) → ((x : Item) → Contains items x → IsTold r x) → AreTold items r (told_values r items)
+pub roots-told : (r : State) (items : List Item) → ((x : Item) → Contains items x → IsTold r x) → AreTold items r (told_values r items)
 roots-told r [] told = refl
 roots-told r (x ∷ items) told =
     let first = told x (0, omega arith, refl) in
@@ -97,7 +97,7 @@ roots-told r (x ∷ items) told =
     let rest : AreTold items r (told_values r items) = roots-told r items (λ y at. told y (suc at.0, omega (arith, at.1), at.2)) in
     (λ i. here i ∷ rest i)
 
-values-told : (r : State) (a : ℕ → ℤ) (items : List Item) → Solves r a → ((x : Item) → Contains items x → IsTold r x) → map (value_of a) items ≡ told_values r items
+pub values-told : (r : State) (a : ℕ → ℤ) (items : List Item) → Solves r a → ((x : Item) → Contains items x → IsTold r x) → map (value_of a) items ≡ told_values r items
 values-told r a [] h told = refl
 values-told r a (x ∷ items) h told =
     let first = told x (0, omega arith, refl) in
@@ -119,7 +119,7 @@ pairs-map f R (x ∷ xs) h i j d l m =
     let second : get_or (map f (x ∷ xs)) j d ≡ f (get_or (x ∷ xs) j x) = get_or-map f (x ∷ xs) j x d (omega arith) in
     subst (λ (ys : List ℤ). R ys (get_or (map f (x ∷ xs)) j d)) (sym first) (subst (R (f (get_or (x ∷ xs) i x))) (sym second) (h i j x l (omega arith)))
 
-contains-map : (f : State → List ℤ) (xs : List State) (r : State) → Contains xs r → Contains (map f xs) (f r)
+pub contains-map : (f : State → List ℤ) (xs : List State) (r : State) → Contains xs r → Contains (map f xs) (f r)
 contains-map f xs r (k, l, e) =
     let many : length (map f xs) ≡ length xs = length-map xs f in
     (k, omega arith, get_or-map f xs k r (f r) l ∙ ap f e)

@@ -19,3 +19,7 @@ mod NewGoals
 mod RanksLemmas
 mod LabelledLemmas
 mod PostedLemmas
+mod DefaultLemmas
+mod DeeperLemmas
+mod RoundLemmas
+mod BestLemmas

@@ -2,3 +2,4 @@ pub mod Made
 pub mod SolutionLaws
 pub mod ReadingLaws
 pub mod LabelledLaws
+pub mod ObjectiveLaws
