@@ -18,6 +18,7 @@ pub mod QueryRuns
 pub mod RunLists
 pub mod Runnable
 pub mod SoleLines
+pub mod Taking
 pub mod TextWrites
 pub mod UnbuiltLines
 pub mod AnswerRuns
