@@ -1,5 +1,5 @@
 -- Where two texts come to a line, that is what is written; where they ask a goal of a program, it is run. And what they come to is one.
-use Rattle.std.proofs.Common.{◌≡◌, ◌≢◌, ◌+◌, inr, ℕ, suc, List, [], ◌∷◌, ◌++◌, map, refl, sym, ap, subst, ◌∙◌, arith}
+use Rattle.std.proofs.Common.{◌≡◌, ◌≢◌, ◌<◌, ◌+◌, inr, ℕ, suc, List, [], ◌∷◌, ◌++◌, map, refl, sym, ap, subst, ◌∙◌, arith}
 use Rattle.pi_syntax.specs.ExpTree.{ExpTree}
 use Rattle.pi_syntax.specs.ProgramTree.{ProgramTree}
 use Rattle.pi_print_program.specs.Canonical.{canonical_text}
@@ -26,7 +26,7 @@ use Rattle.pi_top.proofs.EndingLemmas.{ending-is-one}
 use Rattle.pi_top.proofs.EventLemmas.{answers-append}
 use Rattle.pi_top.proofs.Judging.{AreOne, one-line, not-both, one-asked, one-program, one-program-line, program-no-line}
 use Rattle.pi_top.specs.Told.{lists}
-use Rattle.pi_top.specs.Took.{Took, TakesAt}
+use Rattle.pi_top.specs.Took.{Took, TakesAt, SpendsWork}
 
 no-three : (ending : QueryEnd) → status_of ending ≢ 3
 no-three Stopped e = absurd (omega (arith, e))
@@ -138,6 +138,12 @@ its-ticks work No took part takes = takes.ticks
 its-ticks work (Exception ball) took part takes = takes.ticks
 its-ticks work StepsSpent took part takes = takes.ticks
 its-ticks work WorkSpent took part takes = takes.takes.ticks
+
+-- where less was done, the work wasn't spent
+pub never-spent : {A : Type 0} (work : ℕ) (ending : QueryEnd) (took : Took) (part : List (Emitted A)) → took.runs < work → TakesAt work ending took part → ending ≡ WorkSpent → ⊥
+never-spent work ending took part left takes spent =
+    let it : SpendsWork work took part = subst (λ (e : QueryEnd). TakesAt work e took part) spent takes in
+    absurd (omega (arith, it.used, left))
 
 -- with another status the work wasn't spent
 no-six : (status : ℕ) (ending : QueryEnd) → status ≡ status_of ending → status ≢ 6 → ending ≡ WorkSpent → ⊥
