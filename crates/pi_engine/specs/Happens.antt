@@ -27,7 +27,7 @@ AreTicksAndLoads (noted (Load k) ∷ notes) = AreTicksAndLoads notes
 AreTicksAndLoads (event ∷ notes) = ⊥
 
 -- the sum of the loads
-unfoldable pub sum_of_loads : List (Emitted Solution) → ℕ
+unfoldable pub sum_of_loads : {A : Type 0} → List (Emitted A) → ℕ
 sum_of_loads [] = 0
 sum_of_loads (noted (Load k) ∷ notes) = k + sum_of_loads notes
 sum_of_loads (event ∷ notes) = sum_of_loads notes

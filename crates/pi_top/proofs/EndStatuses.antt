@@ -21,7 +21,7 @@ use Rattle.pi_top.specs.Faults.{FaultCount, counted, Stands, Rises, TellsWrites}
 use Rattle.pi_top.specs.Handing.{HandsText}
 use Rattle.pi_top.specs.Demo.{demo_program}
 use Rattle.pi_top.specs.Manner.{manner_of, goal_of}
-use Rattle.pi_top.specs.QueryEnd.{QueryEnd, Stopped, NoMore, No, Exception, StepsSpent, status_of}
+use Rattle.pi_top.specs.QueryEnd.{QueryEnd, Stopped, NoMore, No, Exception, StepsSpent, WorkSpent, status_of}
 use Rattle.pi_top.specs.Statuses.{ComesText, ComesPrinted, ComesOf, ComesFile, ComesMade, ComesIn, ComesBy}
 use Rattle.pi_top.specs.Statuses as whole
 use Rattle.pi_top_words.specs.Words.{options}
@@ -67,6 +67,7 @@ query-status NoMore = omega arith
 query-status No = omega arith
 query-status (Exception ball) = omega arith
 query-status StepsSpent = omega arith
+query-status WorkSpent = omega arith
 
 text-status : (manner : Manner) (text goal : List ℕ) (queries : List QueryRun) (log : List LogEntry) (status : ℕ) (texts : List (List ℕ)) → ComesText manner text goal (lists queries log) status texts → status < 7
 text-status manner text goal queries log status texts (whole.refused line is written) = omega (arith, written.is_its)

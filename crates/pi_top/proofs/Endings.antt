@@ -39,6 +39,7 @@ use Rattle.pi_top.specs.Writing.{Writes}
 use Rattle.pi_top.proofs.OverNames.{ends-over-names, cut-over-names}
 use Rattle.pi_top.proofs.SoleLines.{line-all, line-front, is-nothing}
 use Rattle.pi_top.specs.Told.{files_read, lists}
+use Rattle.pi_top.specs.Took.{Took}
 use Rattle.pi_top.specs.QueryWords.{asked_in}
 
 -- what is written of a greater thing
@@ -59,26 +60,26 @@ pub text-nothing : (manner : Manner) (text goal : List ℕ) (queries : List Quer
 text-nothing manner text goal queries none = cut.nothing (is-nothing queries none)
 
 -- a goal was run
-has-ran : (manner : Manner) (ticks : ℕ) (is : ProgramTree) (goal : ExpTree) (queries : List QueryRun) (status : ℕ) (writes : List SinkWrite) → queries ≡ run_of ticks ∷ [] →
-    Written (Headline manner is goal [] ticks status) writes → Written (HasRan manner is goal (lists queries []) status) writes
-has-ran manner ticks is goal queries status writes listed w =
-    widens writes (λ texts headline. record { ticks = ticks; listed = listed; headline = headline }) w
+has-ran : (manner : Manner) (took : Took) (is : ProgramTree) (goal : ExpTree) (queries : List QueryRun) (status : ℕ) (writes : List SinkWrite) → queries ≡ run_of took ∷ [] →
+    Written (Headline manner is goal [] took status) writes → Written (HasRan manner is goal (lists queries []) status) writes
+has-ran manner took is goal queries status writes listed w =
+    widens writes (λ texts headline. record { took = took; listed = listed; headline = headline }) w
 
 pub text-ran : (manner : Manner) (text goal : List ℕ) (program : List PredTree) (q : QueryTree) (old new : List QueryRun) (r : Result ℕ Stop) (writes : List SinkWrite) →
     old ≡ [] → IsAsked text goal program q → HasRun (asked_in manner program q) old new r writes → AnswersText manner text goal (lists new []) r writes
 text-ran manner text goal program q old new (Ok status) writes none is (not_asked memory listed nothing) = absurd (cc)
 text-ran manner text goal program q old new (Ok status) writes none is (was_asked has) =
     widens writes (λ texts comes. ran is.source is.asked is.asks comes)
-    (has-ran manner has.ticks is.source is.asked new status writes (rw none at has.listed)
-    (ends-over-names manner is.source is.asked program q has.ticks status writes is.lowered.runs has.comes))
+    (has-ran manner has.took is.source is.asked new status writes (rw none at has.listed)
+    (ends-over-names manner is.source is.asked program q has.took status writes is.lowered.runs has.comes))
 text-ran manner text goal program q old new (Err stop) writes none is (not_asked memory listed nothing) =
     let want : stop ≡ Memory = cc in
     cut.nothing (record { memory = rw want refl; none_asked = listed ∙ none; nothing = nothing })
 text-ran manner text goal program q old new (Err stop) writes none is (was_asked has) = running is.source is.asked is.asks (record {
-  ticks = has.ticks;
+  took = has.took;
   listed = rw none at has.listed;
   within = has.within;
-  cut = cut-over-names manner is.source is.asked program q has.ticks (status_of_stop stop) writes is.lowered.runs has.comes;
+  cut = cut-over-names manner is.source is.asked program q has.took (status_of_stop stop) writes is.lowered.runs has.comes;
 })
 
 -- ---- with a text that is printed

@@ -1,5 +1,5 @@
--- What events print, and how many Ticks and answers they have, where more stand behind them.
-use Rattle.std.proofs.Common.{◌≡◌, ℕ, zero, suc, ◌+◌, List, [], ◌∷◌, ◌++◌, refl, sym, ap, ◌∙◌, arith, append_assoc}
+-- What events print, how many Ticks and answers they have, and the sum of their loads, where more stand behind them.
+use Rattle.std.proofs.Common.{◌≡◌, ℕ, suc, ◌+◌, List, [], ◌∷◌, ◌++◌, refl, sym, ap, ◌∙◌, arith, append_assoc}
 use Rattle.std.proofs.lemmas.List.{append-nil}
 use Rattle.pi_traces.specs.Trace.{Tick, Load, Out, Emitted, noted, answered, count_ticks}
 use Rattle.pi_meaning.specs.CoreMeaning.Run.{Solution}
@@ -7,7 +7,7 @@ use Rattle.pi_print_terms.specs.PrintAnswer.{answer_lines}
 use Rattle.pi_meaning.specs.Shared.Told.{answer_of}
 use Rattle.pi_core.specs.declared.answer.Answer.{Answer}
 use Rattle.pi_core.specs.declared.core_program.NameSlot.{NameSlot}
-use Rattle.pi_meaning.specs.Machine.Next.{some_ticks}
+use Rattle.pi_engine.specs.Happens.{AreTicksAndLoads, sum_of_loads}
 use Rattle.pi_top.specs.declared.manner.Lines.{Lines}
 use Rattle.pi_top.specs.Running.{print_solutions}
 use Rattle.pi_top.specs.ToldLines.{where_told}
@@ -20,6 +20,14 @@ ticks-append (noted Tick ∷ events) more = let rest = ticks-append events more 
 ticks-append (noted (Load k) ∷ events) more = ticks-append events more
 ticks-append (noted (Out text) ∷ events) more = ticks-append events more
 ticks-append (answered x ∷ events) more = ticks-append events more
+
+pub loads-append : {A : Type 0} (events more : List (Emitted A)) → sum_of_loads (events ++ more) ≡ sum_of_loads events + sum_of_loads more
+unfolding sum_of_loads
+loads-append [] more = omega arith
+loads-append (noted Tick ∷ events) more = loads-append events more
+loads-append (noted (Load k) ∷ events) more = let rest = loads-append events more in omega (arith, rest)
+loads-append (noted (Out text) ∷ events) more = loads-append events more
+loads-append (answered x ∷ events) more = loads-append events more
 
 pub answers-append : {A : Type 0} (events more : List (Emitted A)) → count_answers (events ++ more) ≡ count_answers events + count_answers more
 unfolding count_answers
@@ -37,107 +45,71 @@ print-append lines names (answered x ∷ events) more =
     let told : List (List ℕ) = where_told lines (answer_lines (answer_of names x)) in
     ap (λ l. told ++ l) (print-append lines names events more) ∙ sym (append_assoc told (print_solutions lines names events) (print_solutions lines names more))
 
-pub ticks-of_ticks : (k : ℕ) → count_ticks (some_ticks k) ≡ k
-unfolding count_ticks
-ticks-of_ticks zero = refl
-ticks-of_ticks (suc k) = ap suc (ticks-of_ticks k)
+-- ---- Ticks and loads
 
-pub answers-of_ticks : (k : ℕ) → count_answers (some_ticks k) ≡ 0
-unfolding count_answers
-answers-of_ticks zero = refl
-answers-of_ticks (suc k) = answers-of_ticks k
+answers-of_notes : (notes : List (Emitted Solution)) → AreTicksAndLoads notes → count_answers notes ≡ 0
+unfolding AreTicksAndLoads count_answers
+answers-of_notes [] are = refl
+answers-of_notes (noted Tick ∷ notes) are = answers-of_notes notes are
+answers-of_notes (noted (Load k) ∷ notes) are = answers-of_notes notes are
+answers-of_notes (noted (Out text) ∷ notes) are = absurd are
+answers-of_notes (answered x ∷ notes) are = absurd are
 
-pub print-of_ticks : (lines : Lines) (names : List NameSlot) (k : ℕ) → print_solutions lines names (some_ticks k) ≡ []
+print-of_notes : (lines : Lines) (names : List NameSlot) (notes : List (Emitted Solution)) → AreTicksAndLoads notes → print_solutions lines names notes ≡ []
+unfolding AreTicksAndLoads print_solutions
+print-of_notes lines names [] are = refl
+print-of_notes lines names (noted Tick ∷ notes) are = print-of_notes lines names notes are
+print-of_notes lines names (noted (Load k) ∷ notes) are = print-of_notes lines names notes are
+print-of_notes lines names (noted (Out text) ∷ notes) are = absurd are
+print-of_notes lines names (answered x ∷ notes) are = absurd are
+
+pub answers-behind : (events notes : List (Emitted Solution)) → AreTicksAndLoads notes → count_answers (events ++ notes) ≡ count_answers events
+answers-behind events notes are = let all = answers-append events notes in let none = answers-of_notes notes are in omega (arith, all, none)
+
+pub print-behind : (lines : Lines) (names : List NameSlot) (events notes : List (Emitted Solution)) → AreTicksAndLoads notes →
+    print_solutions lines names (events ++ notes) ≡ print_solutions lines names events
+print-behind lines names events notes are =
+    print-append lines names events notes ∙ ap (λ l. print_solutions lines names events ++ l) (print-of_notes lines names notes are) ∙ append-nil (print_solutions lines names events)
+
+-- ---- an answer
+
+pub print-answer : (lines : Lines) (names : List NameSlot) (events : List (Emitted Solution)) (x : Solution) (a : Answer) → a ≡ answer_of names x →
+    print_solutions lines names (events ++ answered x ∷ []) ≡ print_solutions lines names events ++ where_told lines (answer_lines a)
 unfolding print_solutions
-print-of_ticks lines names zero = refl
-print-of_ticks lines names (suc k) = print-of_ticks lines names k
-
--- Ticks behind events
-pub behind-ticks : (lines : Lines) (names : List NameSlot) (events : List (Emitted Solution)) (k : ℕ) → print_solutions lines names (events ++ some_ticks k) ≡ print_solutions lines names events
-behind-ticks lines names events k = print-append lines names events (some_ticks k) ∙ ap (λ l. print_solutions lines names events ++ l) (print-of_ticks lines names k) ∙ append-nil (print_solutions lines names events)
-
-pub ticks-behind : (events : List (Emitted Solution)) (k : ℕ) → count_ticks (events ++ some_ticks k) ≡ count_ticks events + k
-ticks-behind events k = ticks-append events (some_ticks k) ∙ ap (λ n. count_ticks events + n) (ticks-of_ticks k)
-
-pub answers-behind : (events : List (Emitted Solution)) (k : ℕ) → count_answers (events ++ some_ticks k) ≡ count_answers events
-answers-behind events k = let all = answers-append events (some_ticks k) in let none = answers-of_ticks k in omega (arith, all, none)
-
--- Ticks and an answer
-abbrev pub turn : ℕ → Solution → List (Emitted Solution)
-turn k x = some_ticks k ++ answered x ∷ []
-
-print-one : (lines : Lines) (names : List NameSlot) (x : Solution) → print_solutions lines names (answered x ∷ []) ≡ where_told lines (answer_lines (answer_of names x))
-unfolding print_solutions
-print-one lines names x = append-nil (where_told lines (answer_lines (answer_of names x)))
-
-pub print-turn : (lines : Lines) (names : List NameSlot) (events : List (Emitted Solution)) (k : ℕ) (x : Solution) (a : Answer) → a ≡ answer_of names x →
-    print_solutions lines names (events ++ turn k x) ≡ print_solutions lines names events ++ where_told lines (answer_lines a)
-print-turn lines names events k x a is =
-    print-append lines names events (turn k x)
-    ∙ ap (λ l. print_solutions lines names events ++ l) (print-append lines names (some_ticks k) (answered x ∷ []) ∙ ap (λ l. l ++ print_solutions lines names (answered x ∷ [])) (print-of_ticks lines names k) ∙ print-one lines names x)
+print-answer lines names events x a is =
+    print-append lines names events (answered x ∷ [])
+    ∙ ap (λ l. print_solutions lines names events ++ l) (append-nil (where_told lines (answer_lines (answer_of names x))))
     ∙ ap (λ b. print_solutions lines names events ++ where_told lines (answer_lines b)) (sym is)
 
-one-tick : (x : Solution) → count_ticks (answered x ∷ []) ≡ 0
+pub ticks-answer : (events : List (Emitted Solution)) (x : Solution) → count_ticks (events ++ answered x ∷ []) ≡ count_ticks events
 unfolding count_ticks
-one-tick x = refl
+ticks-answer events x = let all = ticks-append events (answered x ∷ []) in omega (arith, all)
 
-one-answer : (x : Solution) → count_answers (answered x ∷ []) ≡ 1
+pub loads-answer : (events : List (Emitted Solution)) (x : Solution) → sum_of_loads (events ++ answered x ∷ []) ≡ sum_of_loads events
+unfolding sum_of_loads
+loads-answer events x = let all = loads-append events (answered x ∷ []) in omega (arith, all)
+
+pub one-answer : (events : List (Emitted Solution)) (x : Solution) → count_answers (events ++ answered x ∷ []) ≡ suc (count_answers events)
 unfolding count_answers
-one-answer x = refl
+one-answer events x = let all = answers-append events (answered x ∷ []) in omega (arith, all)
 
-pub ticks-turn : (events : List (Emitted Solution)) (k : ℕ) (x : Solution) → count_ticks (events ++ turn k x) ≡ count_ticks events + k
-ticks-turn events k x =
-    let all = ticks-append events (turn k x) in
-    let inner = ticks-append (some_ticks k) (answered x ∷ []) in
-    let some = ticks-of_ticks k in
-    let none = one-tick x in
-    omega (arith, all, inner, some, none)
+pub last-answer : (events : List (Emitted Solution)) (x : Solution) (given : ℕ) → count_answers (events ++ answered x ∷ []) ≡ given → EndsWithLast given (events ++ answered x ∷ [])
+last-answer events x given all = record { front = events; last = x; is = refl; all = all }
 
-pub answers-turn : (events : List (Emitted Solution)) (k : ℕ) (x : Solution) → count_answers (events ++ turn k x) ≡ suc (count_answers events)
-answers-turn events k x =
-    let all = answers-append events (turn k x) in
-    let inner = answers-append (some_ticks k) (answered x ∷ []) in
-    let some = answers-of_ticks k in
-    let one = one-answer x in
-    omega (arith, all, inner, some, one)
+-- ---- a text
 
-pub last-turn : (events : List (Emitted Solution)) (k : ℕ) (x : Solution) (given : ℕ) → count_answers (events ++ turn k x) ≡ given → EndsWithLast given (events ++ turn k x)
-last-turn events k x given all = record { front = events ++ some_ticks k; last = x; is = sym (append_assoc events (some_ticks k) (answered x ∷ [])); all = all }
-
--- Ticks and a text
-abbrev pub text-turn : ℕ → List ℕ → List (Emitted Solution)
-text-turn k text = some_ticks k ++ noted (Out text) ∷ []
-
-text-alone : (lines : Lines) (names : List NameSlot) (text : List ℕ) → print_solutions lines names (noted (Out text) ∷ []) ≡ text ∷ []
+pub print-text : (lines : Lines) (names : List NameSlot) (events : List (Emitted Solution)) (text : List ℕ) → print_solutions lines names (events ++ noted (Out text) ∷ []) ≡ print_solutions lines names events ++ text ∷ []
 unfolding print_solutions
-text-alone lines names text = refl
+print-text lines names events text = print-append lines names events (noted (Out text) ∷ [])
 
-pub print-text : (lines : Lines) (names : List NameSlot) (events : List (Emitted Solution)) (k : ℕ) (text : List ℕ) → print_solutions lines names (events ++ text-turn k text) ≡ print_solutions lines names events ++ text ∷ []
-print-text lines names events k text =
-    print-append lines names events (text-turn k text)
-    ∙ ap (λ l. print_solutions lines names events ++ l)
-    (print-append lines names (some_ticks k) (noted (Out text) ∷ []) ∙ ap (λ l. l ++ print_solutions lines names (noted (Out text) ∷ [])) (print-of_ticks lines names k) ∙ text-alone lines names text)
-
-no-tick : (text : List ℕ) → count_ticks {A = Solution} (noted (Out text) ∷ []) ≡ 0
+pub ticks-text : (events : List (Emitted Solution)) (text : List ℕ) → count_ticks (events ++ noted (Out text) ∷ []) ≡ count_ticks events
 unfolding count_ticks
-no-tick text = refl
+ticks-text events text = let all = ticks-append events (noted (Out text) ∷ []) in omega (arith, all)
 
-no-answer : (text : List ℕ) → count_answers {A = Solution} (noted (Out text) ∷ []) ≡ 0
+pub loads-text : (events : List (Emitted Solution)) (text : List ℕ) → sum_of_loads (events ++ noted (Out text) ∷ []) ≡ sum_of_loads events
+unfolding sum_of_loads
+loads-text events text = let all = loads-append events (noted (Out text) ∷ []) in omega (arith, all)
+
+pub answers-text : (events : List (Emitted Solution)) (text : List ℕ) → count_answers (events ++ noted (Out text) ∷ []) ≡ count_answers events
 unfolding count_answers
-no-answer text = refl
-
-pub ticks-text : (events : List (Emitted Solution)) (k : ℕ) (text : List ℕ) → count_ticks (events ++ text-turn k text) ≡ count_ticks events + k
-ticks-text events k text =
-    let all = ticks-append events (text-turn k text) in
-    let inner = ticks-append (some_ticks k) (noted (Out text) ∷ []) in
-    let some = ticks-of_ticks k in
-    let none = no-tick text in
-    omega (arith, all, inner, some, none)
-
-pub answers-text : (events : List (Emitted Solution)) (k : ℕ) (text : List ℕ) → count_answers (events ++ text-turn k text) ≡ count_answers events
-answers-text events k text =
-    let all = answers-append events (text-turn k text) in
-    let inner = answers-append (some_ticks k) (noted (Out text) ∷ []) in
-    let some = answers-of_ticks k in
-    let none = no-answer text in
-    omega (arith, all, inner, some, none)
+answers-text events text = let all = answers-append events (noted (Out text) ∷ []) in omega (arith, all)

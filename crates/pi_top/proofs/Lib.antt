@@ -6,6 +6,9 @@ pub mod Endings
 pub mod FaultlessHeads
 pub mod Judging
 pub mod Manners
+pub mod NeverAborts
+pub mod NoAborts
+pub mod NoAbortsGiven
 pub mod Refusing
 pub mod AskedTexts
 pub mod EventLemmas
@@ -18,6 +21,7 @@ pub mod QueryRuns
 pub mod RunLists
 pub mod Runnable
 pub mod SoleLines
+pub mod Taking
 pub mod TextWrites
 pub mod UnbuiltLines
 pub mod AnswerRuns

@@ -4,16 +4,17 @@ use Rattle.pi_top_words.specs.declared.asked.Options.{Options}
 use Rattle.pi_top_words.specs.declared.run_mode.RunMode.{RunMode}
 use Rattle.pi_top_words.specs.declared.run_mode.RunMode.TheVariants.{Query, Run, Session, Print, Demo}
 use Rattle.pi_top.specs.Manner.{manner_in, manner_of}
+use Rattle.pi_top.specs.Took.{bounds_of, bounds_asked}
 
-steps-in : (mode : RunMode) (asked : Options) → (manner_in mode asked).steps ≡ asked.steps
-steps-in Query asked = refl
-steps-in Run asked = refl
-steps-in Session asked = refl
-steps-in Print asked = refl
-steps-in Demo asked = refl
+bounds-in : (mode : RunMode) (asked : Options) → bounds_of (manner_in mode asked) ≡ bounds_asked asked
+bounds-in Query asked = refl
+bounds-in Run asked = refl
+bounds-in Session asked = refl
+bounds-in Print asked = refl
+bounds-in Demo asked = refl
 
-pub manner-steps : (asked : Options) → (manner_of asked).steps ≡ asked.steps
-manner-steps asked = steps-in asked.mode asked
+pub manner-bounds : (asked : Options) → bounds_of (manner_of asked) ≡ bounds_asked asked
+manner-bounds asked = bounds-in asked.mode asked
 
 answers-in : (mode : RunMode) (asked : Options) → 0 < asked.answers → 0 < (manner_in mode asked).answers
 answers-in Query asked some = some

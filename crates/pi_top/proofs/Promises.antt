@@ -12,6 +12,7 @@ use Rattle.pi_top.specs.Ends.{Ends, AsksNoSession, AsksSession, ReadsNoFile}
 use Rattle.pi_top.specs.Over.{FilesOver, InputOver, SinkOver, files_count, input_count, sink_count}
 use Rattle.pi_top.specs.Promise.{Promise}
 use Rattle.pi_top.specs.Runs.{AllWithin}
+use Rattle.pi_top.specs.Took.{bounds_asked}
 use Rattle.pi_top.specs.SessionEnds.{SessionEnds}
 use Rattle.pi_top.specs.declared.outcome.Outcome.{Outcome}
 use Rattle.pi_top.proofs.Completing.{complete}
@@ -33,7 +34,7 @@ pub record Gives {F I O : Type 0} (most : ℕ) (words : List (List ℕ)) (files 
   pub no_input : AsksNoSession (options words) → input.new ≡ input.old
   pub no_log : outcome.log ≡ []
   pub none_entered : outcome.entered ≡ []
-  pub ran : (asked : Options) → options words ≡ Some asked → AllWithin asked.steps outcome.queries
+  pub ran : (asked : Options) → options words ≡ Some asked → AllWithin (bounds_asked asked) outcome.queries
 
 all-tell : {F I O : Type 0} (most : ℕ) (words : List (List ℕ)) (files : FilesOver F) (input : InputOver I) (out : SinkOver O) (outcome : Outcome) →
     Gives most words files input out outcome → AllTell outcome.status (files_count files) (input_count input) (sink_count out)

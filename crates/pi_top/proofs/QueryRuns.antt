@@ -1,24 +1,20 @@
 -- A query's run, call of `next` by call, and what is printed of it; and the list of the queries that were run.
 use Rattle.std.proofs.Common.{◌≡◌, ◌≤◌, ℕ, suc, ◌+◌, ◌-◌, List, [], ◌∷◌, ◌++◌, Result, refl, sym, ap, subst, ◌∙◌, arith, append_assoc, length, length-append, slice_set}
 use Rattle.pi_outside.specs.Writes.{SinkWrite}
-use Rattle.pi_traces.specs.Trace.{Emitted, count_ticks}
+use Rattle.pi_traces.specs.Trace.{Out, Emitted, noted, answered, count_ticks}
 use Rattle.pi_traces.specs.Depth.{Cut, with_events}
 use Rattle.pi_meaning.specs.Shared.View.{query_view}
 use Rattle.pi_core.specs.CoreTree.{PredTree, QueryTree}
 use Rattle.pi_meaning.specs.CoreMeaning.Run.{Solution, IsRun}
 use Rattle.pi_print_terms.specs.PrintAnswer.{answer_lines}
 use Rattle.pi_core.specs.declared.answer.Answer.{Answer}
-use Rattle.pi_core.specs.declared.core_program.NameSlot.{NameSlot}
 use Rattle.pi_meaning.proofs.CoreMeaning.QuietRules.{query-runs}
 use Rattle.pi_meaning.specs.declared.happening.Budget.{Budget}
 use Rattle.pi_meaning.specs.declared.happening.Happening.{Happening}
-use Rattle.pi_meaning.specs.declared.happening.Mode.{Mode}
 use Rattle.pi_meaning.specs.Machine.Built.{IsRunnable}
-use Rattle.pi_engine_stands.specs.Goes.{counted}
-use Rattle.pi_meaning.specs.Machine.Next.{some_ticks}
 use Rattle.pi_engine.specs.Seen.{MachineView, GoesOn}
 use Rattle.pi_engine.specs.Runs.{RunsTo}
-use Rattle.pi_engine.specs.Happens.{HappensByTicks}
+use Rattle.pi_engine.specs.Happens.{Happens}
 use Rattle.pi_top.specs.declared.manner.Lines.{Lines}
 use Rattle.pi_top.specs.declared.runs.QueryRun.{QueryRun}
 use Rattle.pi_top.specs.declared.query.Stop.{Stop}
@@ -27,15 +23,13 @@ use Rattle.pi_top.specs.Handing.{HandsAll, none}
 use Rattle.pi_top.specs.QueryEnd.{count_answers}
 use Rattle.pi_top.specs.Running.{print_solutions, IsQueryPart, IsAtStart, IsSoFar, IsWritten, Called, ComesTo, HasRun, was_asked}
 use Rattle.pi_top.specs.ToldLines.{where_told}
-use Rattle.pi_top.proofs.EventLemmas.{behind-ticks, ticks-behind, answers-behind, turn, print-turn, ticks-turn, answers-turn, last-turn, text-turn, print-text, ticks-text, answers-text}
+use Rattle.pi_top.specs.Took.{Bounds, Took, IsAllowed}
+use Rattle.pi_top.proofs.EventLemmas.{print-answer, one-answer, last-answer, print-text, answers-text}
 use Rattle.pi_top.proofs.HandedTexts.{hands-then}
+use Rattle.pi_top.proofs.Taking.{IsTail, tail-of, tail-whole, takes-answer, takes-text}
 use Rattle.pi_top.specs.QueryWords.{asked_query, told_query}
 
 -- ---- a query's run
-
-pub counted-ticks : (mode : Mode) (b c : Budget) → mode ≡ Mode.Top → b.ticks ≤ c.ticks → b.ticks + counted mode b c ≡ c.ticks
-counted-ticks Mode.Top b c top more = omega (arith, more)
-counted-ticks (Mode.Inner rest) b c top more = absurd (cc)
 
 pub written-start : {M : Type 0} (lines : Lines) (m : MachineView M) (b : Budget) (answers : ℕ) (program : List PredTree) (q : QueryTree) →
     IsAtStart m b answers program q → IsWritten (told_query lines program q) m b 0 []
@@ -47,7 +41,8 @@ written-start lines m b answers program q is = record {
     counts_ticks = is.counts_ticks;
     running = is.running;
     answers = refl;
-    ticks = is.unspent;
+    takes = record { ticks = is.unspent; runs = rw is.workless (omega arith) };
+    others = record { goals = rw is.workless refl; expansions = rw is.workless refl };
     within = is.within;
     written = none;
   };
@@ -56,49 +51,48 @@ written-start lines m b answers program q is = record {
 
 -- after an answer whose lines were written
 pub written-answer : {M : Type 0} (lines : Lines) (m n : MachineView M) (b c : Budget) (given : ℕ) (program : List PredTree) (q : QueryTree) (a : Answer) (first second : List SinkWrite) →
-    (w : IsSoFar (told_query lines program q) m b given first) → Called m n b c → HappensByTicks (query_view []) program q w.events m n b c (Happening.Answer a) → GoesOn n →
+    (w : IsSoFar (told_query lines program q) m b given first) → Called m n b c → Happens (query_view []) program q w.events m n b c (Happening.Answer a) → GoesOn n →
     HandsAll (where_told lines (answer_lines a)) second → IsWritten (told_query lines program q) n c (given + 1) (first ++ second)
 written-answer lines m n b c given program q a first second w called happens running handed =
-    let k : ℕ = counted m.mode b c in
-    let x : Solution = happens.0 in
-    let events : List (Emitted Solution) = w.events ++ turn k x in
-    let more : b.ticks + k ≡ c.ticks = counted-ticks m.mode b c w.counts_ticks called.counts.ticks in
-    let ticks : count_ticks events ≡ count_ticks w.events + k = ticks-turn w.events k x in
-    let one : count_answers events ≡ suc (count_answers w.events) = answers-turn w.events k x in
-    let all : count_answers events ≡ given + 1 = omega (arith, one, w.answers) in
+    let x : Solution = happens.comes.0 in
+    let earlier : List (Emitted Solution) = w.events ++ happens.notes in
+    let tail = tail-of (told_query lines program q) m n b c given (Happening.Answer a) happens.notes first w called happens.adds in
+    let takes = tail-whole (told_query lines program q) m n b c given (Happening.Answer a) happens.notes first w called happens.adds happens.adds.others in
+    let one : count_answers (earlier ++ answered x ∷ []) ≡ suc (count_answers earlier) = one-answer earlier x in
+    let all : count_answers (earlier ++ answered x ∷ []) ≡ given + 1 = omega (arith, one, tail.answers) in
     record {
       so_far = record {
-        events = events;
-        runs = happens.2;
+        events = earlier ++ answered x ∷ [];
+        runs = happens.comes.2;
         counts_ticks = called.mode ∙ w.counts_ticks;
         running = running;
         answers = all;
-        ticks = omega (arith, w.ticks, more, ticks);
-        within = called.within w.within;
-        written = rw (print-turn lines q.names w.events k x a happens.1) (hands-then (print_solutions lines q.names w.events) (where_told lines (answer_lines a)) first second w.written handed);
+        takes = takes-answer _ earlier x takes;
+        others = tail.others;
+        within = tail.within;
+        written = rw (print-answer lines q.names earlier x a happens.comes.1, tail.printed) (hands-then (print_solutions lines q.names w.events) (where_told lines (answer_lines a)) first second w.written handed);
       };
-      last = λ some. last-turn w.events k x (given + 1) all;
+      last = λ some. last-answer earlier x (given + 1) all;
     }
 
 -- after a text that was written
 pub written-text : {M : Type 0} (lines : Lines) (m n : MachineView M) (b c : Budget) (given : ℕ) (program : List PredTree) (q : QueryTree) (text : List ℕ) (first second : List SinkWrite) →
-    (w : IsSoFar (told_query lines program q) m b given first) → Called m n b c → HappensByTicks (query_view []) program q w.events m n b c (Happening.Out text) → GoesOn n →
+    (w : IsSoFar (told_query lines program q) m b given first) → Called m n b c → Happens (query_view []) program q w.events m n b c (Happening.Out text) → GoesOn n →
     HandsAll (text ∷ []) second → IsSoFar (told_query lines program q) n c given (first ++ second)
 written-text lines m n b c given program q text first second w called happens running handed =
-    let k : ℕ = counted m.mode b c in
-    let events : List (Emitted Solution) = w.events ++ text-turn k text in
-    let more : b.ticks + k ≡ c.ticks = counted-ticks m.mode b c w.counts_ticks called.counts.ticks in
-    let ticks : count_ticks events ≡ count_ticks w.events + k = ticks-text w.events k text in
-    let same : count_answers events ≡ count_answers w.events = answers-text w.events k text in
+    let earlier : List (Emitted Solution) = w.events ++ happens.notes in
+    let tail = tail-of (told_query lines program q) m n b c given (Happening.Out text) happens.notes first w called happens.adds in
+    let takes = tail-whole (told_query lines program q) m n b c given (Happening.Out text) happens.notes first w called happens.adds happens.adds.others in
     record {
-      events = events;
-      runs = happens;
+      events = earlier ++ noted (Out text) ∷ [];
+      runs = happens.comes;
       counts_ticks = called.mode ∙ w.counts_ticks;
       running = running;
-      answers = same ∙ w.answers;
-      ticks = omega (arith, w.ticks, more, ticks);
-      within = called.within w.within;
-      written = rw (print-text lines q.names w.events k text) (hands-then (print_solutions lines q.names w.events) (text ∷ []) first second w.written handed);
+      answers = answers-text earlier text ∙ tail.answers;
+      takes = takes-text _ earlier text takes;
+      others = tail.others;
+      within = tail.within;
+      written = rw (print-text lines q.names earlier text, tail.printed) (hands-then (print_solutions lines q.names w.events) (text ∷ []) first second w.written handed);
     }
 
 -- the events so far begin the query's run
@@ -112,12 +106,12 @@ prefix-of m program q events steps run runs is few =
     record { is_run = is; begins = record { rest = split.0.events; whole_is = ap (λ (r : Cut Solution). r.events) split.1 } }
 
 -- a part without its last events
-pub earlier-part : (program : List PredTree) (q : QueryTree) (steps : ℕ) (run : Cut Solution) (front more last : List (Emitted Solution)) → IsQueryPart program q steps run (front ++ (more ++ last)) → IsQueryPart program q steps run (front ++ more)
-earlier-part program q steps run front more last part = record {
+pub earlier-part : (program : List PredTree) (q : QueryTree) (steps : ℕ) (run : Cut Solution) (front last : List (Emitted Solution)) → IsQueryPart program q steps run (front ++ last) → IsQueryPart program q steps run front
+earlier-part program q steps run front last part = record {
   is_run = part.is_run;
   begins = record {
     rest = last ++ part.begins.rest;
-    whole_is = part.begins.whole_is ∙ ap (λ es. es ++ part.begins.rest) (sym (append_assoc front more last)) ∙ append_assoc (front ++ more) last part.begins.rest;
+    whole_is = part.begins.whole_is ∙ append_assoc front last part.begins.rest;
   };
 }
 
@@ -131,26 +125,6 @@ pub has-part : {M : Type 0} (m : MachineView M) (program : List PredTree) (q : Q
 has-part m program q events steps runnable runs few =
     let found : (run : Cut Solution) × IsRun program q [] steps run = query-runs (query_view []) program q runnable.sound.preds.ticks steps in
     record { run = found.0; is_part = prefix-of m program q events steps found.0 runs found.1 few }
-
--- Ticks behind what was written: they print nothing
-pub record IsTail (lines : Lines) (events : List (Emitted Solution)) (k given total : ℕ) (names : List NameSlot) : Type 0 where
-  pub so_many : count_ticks events + k ≡ total
-  pub ticks : total ≡ count_ticks (events ++ some_ticks k)
-  pub answers : count_answers (events ++ some_ticks k) ≡ given
-  pub printed : print_solutions lines names (events ++ some_ticks k) ≡ print_solutions lines names events
-
-pub tail-of : {M : Type 0} (lines : Lines) (m n : MachineView M) (b c : Budget) (given : ℕ) (program : List PredTree) (q : QueryTree) (writes : List SinkWrite) →
-    (w : IsSoFar (told_query lines program q) m b given writes) → Called m n b c → IsTail lines w.events (counted m.mode b c) given c.ticks q.names
-tail-of lines m n b c given program q writes w called =
-    let k : ℕ = counted m.mode b c in
-    let more : b.ticks + k ≡ c.ticks = counted-ticks m.mode b c w.counts_ticks called.counts.ticks in
-    let ticks : count_ticks (w.events ++ some_ticks k) ≡ count_ticks w.events + k = ticks-behind w.events k in
-    record {
-      so_many = omega (arith, more, w.ticks);
-      ticks = omega (arith, more, w.ticks, ticks);
-      answers = answers-behind w.events k ∙ w.answers;
-      printed = behind-ticks lines q.names w.events k;
-    }
 
 -- ---- the list of queries
 
@@ -166,11 +140,11 @@ set-last runs listed new a b pushed set =
     set ∙ ap (λ n. slice_set listed n b) last ∙ ap (λ (l : List QueryRun). slice_set l (length runs) b) pushed ∙ set-end runs a b
 
 -- a query that was asked is listed last
-pub has-run : (lines : Lines) (answers steps : ℕ) (program : List PredTree) (q : QueryTree) (old listed new : List QueryRun) (a run : QueryRun) (ticks : ℕ) (r : Result ℕ Stop) (writes : List SinkWrite) →
-    listed ≡ old ++ a ∷ [] → new ≡ slice_set listed (length listed - 1) run → run ≡ run_of ticks → ticks ≤ steps → ComesTo (asked_query lines answers steps program q) ticks r writes →
-    HasRun (asked_query lines answers steps program q) old new r writes
-has-run lines answers steps program q old listed new a run ticks r writes pushed set is within comes = was_asked (record {
-  ticks = ticks;
+pub has-run : (lines : Lines) (answers : ℕ) (may : Bounds) (program : List PredTree) (q : QueryTree) (old listed new : List QueryRun) (a run : QueryRun) (took : Took) (r : Result ℕ Stop) (writes : List SinkWrite) →
+    listed ≡ old ++ a ∷ [] → new ≡ slice_set listed (length listed - 1) run → run ≡ run_of took → IsAllowed may took → ComesTo (asked_query lines answers may program q) took r writes →
+    HasRun (asked_query lines answers may program q) old new r writes
+has-run lines answers may program q old listed new a run took r writes pushed set is within comes = was_asked (record {
+  took = took;
   listed = set-last old listed new a run pushed set ∙ ap (λ (x : QueryRun). old ++ x ∷ []) is;
   within = within;
   comes = comes;

@@ -1,5 +1,5 @@
 -- Where two texts come to a line, that is what is written; where they ask a goal of a program, it is run. And what they come to is one.
-use Rattle.std.proofs.Common.{◌≡◌, ◌≢◌, ◌+◌, inr, ℕ, suc, List, [], ◌∷◌, ◌++◌, refl, sym, ap, subst, ◌∙◌, arith}
+use Rattle.std.proofs.Common.{◌≡◌, ◌≢◌, ◌<◌, ◌+◌, inr, ℕ, suc, List, [], ◌∷◌, ◌++◌, map, refl, sym, ap, subst, ◌∙◌, arith}
 use Rattle.pi_syntax.specs.ExpTree.{ExpTree}
 use Rattle.pi_syntax.specs.ProgramTree.{ProgramTree}
 use Rattle.pi_print_program.specs.Canonical.{canonical_text}
@@ -17,8 +17,8 @@ use Rattle.pi_top.specs.Headline.{Headline}
 use Rattle.pi_top.specs.Judged.{Refused, Asks}
 use Rattle.pi_top.specs.Prefix.{IsPrefix}
 use Rattle.pi_top.specs.Printing.{print}
-use Rattle.pi_top.specs.QueryEnd.{QueryEnd, Stopped, NoMore, No, Exception, StepsSpent, status_of, count_answers, EndsWithLast, IsWhole, Ends}
-use Rattle.pi_top.specs.Runs.{HasRan, run_of}
+use Rattle.pi_top.specs.QueryEnd.{QueryEnd, Stopped, NoMore, No, Exception, StepsSpent, WorkSpent, status_of, count_answers, EndsWithLast, IsWhole, Ends}
+use Rattle.pi_top.specs.Runs.{HasRan, run_of, but_for_runs}
 use Rattle.pi_top.specs.SoleLine.{IsLine}
 use Rattle.pi_top.specs.Statuses.{ComesText, refused, ran, ComesPrinted, faulty, printed}
 use Rattle.pi_top.specs.ToldLines.{end_lines}
@@ -26,6 +26,7 @@ use Rattle.pi_top.proofs.EndingLemmas.{ending-is-one}
 use Rattle.pi_top.proofs.EventLemmas.{answers-append}
 use Rattle.pi_top.proofs.Judging.{AreOne, one-line, not-both, one-asked, one-program, one-program-line, program-no-line}
 use Rattle.pi_top.specs.Told.{lists}
+use Rattle.pi_top.specs.Took.{Took, TakesAt, SpendsWork}
 
 no-three : (ending : QueryEnd) → status_of ending ≢ 3
 no-three Stopped e = absurd (omega (arith, e))
@@ -33,6 +34,7 @@ no-three NoMore e = absurd (omega (arith, e))
 no-three No e = absurd (omega (arith, e))
 no-three (Exception ball) e = absurd (omega (arith, e))
 no-three StepsSpent e = absurd (omega (arith, e))
+no-three WorkSpent e = absurd (omega (arith, e))
 
 pub refused-written : (o : AreOne) (manner : Manner) (text goal line : List ℕ) (texts : List (List ℕ)) (queries : List QueryRun) (log : List LogEntry) (status : ℕ) → Refused text goal line →
     ComesText manner text goal (lists queries log) status texts → IsLine line 3 status queries texts
@@ -101,17 +103,18 @@ last-no-whole asked part other run stop begins last whole =
     let same : count_answers run.events ≡ count_answers other = ap count_answers whole.whole in
     absurd (omega (arith, all, same, last.all, whole.fewer))
 
--- how an end stands to its part: it ends with the last answer, or it is the whole of the run
+-- how an end stands to its part that isn't in front of a load: it ends with the last answer, or it is the whole of the run
 pub data Stands (asked : ℕ) (part : List (Emitted Told)) (run : Cut Told) : Type 0 where
   with_last : EndsWithLast asked part → Stands asked part run
   is_whole : (stop : Stop) → IsWhole asked part run stop → Stands asked part run
 
-pub stands : (asked : ℕ) (part : List (Emitted Told)) (run : Cut Told) (ending : QueryEnd) → Ends asked part run ending → Stands asked part run
-stands asked part run Stopped is = with_last is
-stands asked part run NoMore is = is_whole (Ended Done) is.0
-stands asked part run No is = is_whole (Ended Done) is.0
-stands asked part run (Exception ball) is = is_whole (Ended (Raise ball)) is
-stands asked part run StepsSpent is = is_whole Spent is
+pub stands : (asked : ℕ) (part : List (Emitted Told)) (run : Cut Told) (ending : QueryEnd) → (ending ≡ WorkSpent → ⊥) → Ends asked part run ending → Stands asked part run
+stands asked part run Stopped left is = with_last is
+stands asked part run NoMore left is = is_whole (Ended Done) is.0
+stands asked part run No left is = is_whole (Ended Done) is.0
+stands asked part run (Exception ball) left is = is_whole (Ended (Raise ball)) is
+stands asked part run StepsSpent left is = is_whole Spent is
+stands asked part run WorkSpent left is = absurd (left refl)
 
 pub one-part : (asked : ℕ) (part other : List (Emitted Told)) (run : Cut Told) → IsPrefix part run.events → IsPrefix other run.events → Stands asked part run → Stands asked other run → part ≡ other
 one-part asked part other run a b (with_last last) (with_last lasts) = one-last asked part other run.events a b last lasts
@@ -121,60 +124,93 @@ one-part asked part other run a b (is_whole stop whole) (is_whole stops wholes) 
 
 -- ---- one outcome
 
--- what two headlines of one goal have in common
-record AreSame (ticks others status other : ℕ) (texts more : List (List ℕ)) : Type 0 where
-  pub same_ticks : ticks ≡ others
+-- what two headlines of one goal have in common: their parts and ends; of the runs of propagators there are bounds alone
+record AreSame (took others : Took) (status other : ℕ) (texts more : List (List ℕ)) : Type 0 where
+  pub same_ticks : took.ticks ≡ others.ticks
   pub same_status : status ≡ other
   pub same_texts : texts ≡ more
 
-one-headline : (manner : Manner) (program : ProgramTree) (goal : ExpTree) (log : List LogEntry) (ticks others status other : ℕ) (texts more : List (List ℕ)) →
-    Headline manner program goal log ticks status texts → Headline manner program goal log others other more → AreSame ticks others status other texts more
-one-headline manner program goal log ticks others status other texts more a b =
+-- the Ticks that it took are those of the part, whatever its end
+pub its-ticks : {A : Type 0} (work : ℕ) (ending : QueryEnd) (took : Took) (part : List (Emitted A)) → TakesAt work ending took part → took.ticks ≡ count_ticks part
+its-ticks work Stopped took part takes = takes.ticks
+its-ticks work NoMore took part takes = takes.ticks
+its-ticks work No took part takes = takes.ticks
+its-ticks work (Exception ball) took part takes = takes.ticks
+its-ticks work StepsSpent took part takes = takes.ticks
+its-ticks work WorkSpent took part takes = takes.takes.ticks
+
+-- where less was done, the work wasn't spent
+pub never-spent : {A : Type 0} (work : ℕ) (ending : QueryEnd) (took : Took) (part : List (Emitted A)) → took.runs < work → TakesAt work ending took part → ending ≡ WorkSpent → ⊥
+never-spent work ending took part left takes spent =
+    let it : SpendsWork work took part = subst (λ (e : QueryEnd). TakesAt work e took part) spent takes in
+    absurd (omega (arith, it.used, left))
+
+-- with another status the work wasn't spent
+no-six : (status : ℕ) (ending : QueryEnd) → status ≡ status_of ending → status ≢ 6 → ending ≡ WorkSpent → ⊥
+no-six status ending is left spent = left (is ∙ ap status_of spent)
+
+one-headline : (manner : Manner) (program : ProgramTree) (goal : ExpTree) (log : List LogEntry) (took others : Took) (status other : ℕ) (texts more : List (List ℕ)) → status ≢ 6 → other ≢ 6 →
+    Headline manner program goal log took status texts → Headline manner program goal log others other more → AreSame took others status other texts more
+one-headline manner program goal log took others status other texts more left right a b =
     let run : a.run ≡ b.run = names-runs-are-one (query_view log) no_stages no-stages-add program goal manner.steps a.run b.run (a.is_part.is_run no_stages (inr refl)) (b.is_part.is_run no_stages (inr refl)) in
     let begins : IsPrefix b.part a.run.events = rw (← run) at b.is_part.begins in
     let ends : Ends manner.answers b.part a.run b.ending = rw (← run) at b.ends in
     let part : a.part ≡ b.part =
-    one-part manner.answers a.part b.part a.run a.is_part.begins begins (stands manner.answers a.part a.run a.ending a.ends) (stands manner.answers b.part a.run b.ending ends) in
+    one-part manner.answers a.part b.part a.run a.is_part.begins begins (stands manner.answers a.part a.run a.ending (no-six status a.ending a.its_status left) a.ends)
+    (stands manner.answers b.part a.run b.ending (no-six other b.ending b.its_status right) ends) in
     let ending : a.ending ≡ b.ending = ending-is-one manner.answers a.part a.run a.ending b.ending a.ends (subst (λ p. Ends manner.answers p a.run b.ending) (sym part) ends) in
     record {
-      same_ticks = a.ticks_in_it ∙ ap count_ticks part ∙ sym b.ticks_in_it;
+      same_ticks = its-ticks manner.work a.ending took a.part a.takes ∙ ap count_ticks part ∙ sym (its-ticks manner.work b.ending others b.part b.takes);
       same_status = a.its_status ∙ ap status_of ending ∙ sym b.its_status;
       same_texts = a.written ∙ ap (λ p. print manner.lines p ++ end_lines manner.lines a.ending) part ∙ ap (λ e. print manner.lines b.part ++ end_lines manner.lines e) ending ∙ sym b.written;
     }
 
 pub record AreOneOutcome (queries runs : List QueryRun) (status other : ℕ) (texts more : List (List ℕ)) : Type 0 where
-  pub same_queries : queries ≡ runs
+  pub same_queries : map but_for_runs queries ≡ map but_for_runs runs
   pub same_status : status ≡ other
   pub same_texts : texts ≡ more
 
-one-ran : (manner : Manner) (log : List LogEntry) (p q : ProgramTree) (e f : ExpTree) (queries runs : List QueryRun) (status other : ℕ) (texts more : List (List ℕ)) → q ≡ p → f ≡ e →
+-- a run without the number of its runs of propagators is told by its Ticks
+pub by-ticks : (took others : Took) → took.ticks ≡ others.ticks → but_for_runs (run_of took) ≡ but_for_runs (run_of others)
+by-ticks took others same = ap (λ (n : ℕ). run_of (record { ticks = n; runs = 0 })) same
+
+-- where none was run
+none-ran : (queries runs : List QueryRun) → queries ≡ [] → runs ≡ [] → map but_for_runs queries ≡ map but_for_runs runs
+none-ran queries runs a b = ap (map but_for_runs) (a ∙ sym b)
+
+one-ran : (manner : Manner) (log : List LogEntry) (p q : ProgramTree) (e f : ExpTree) (queries runs : List QueryRun) (status other : ℕ) (texts more : List (List ℕ)) → q ≡ p → f ≡ e → status ≢ 6 → other ≢ 6 →
     HasRan manner p e (lists queries log) status texts → HasRan manner q f (lists runs log) other more → AreOneOutcome queries runs status other texts more
-one-ran manner log p q e f queries runs status other texts more program goal a b =
-    let head : Headline manner p e log b.ticks other more = rw (program, goal) at b.headline in
-    let same = one-headline manner p e log a.ticks b.ticks status other texts more a.headline head in
+one-ran manner log p q e f queries runs status other texts more program goal left right a b =
+    let head : Headline manner p e log b.took other more = rw (program, goal) at b.headline in
+    let same = one-headline manner p e log a.took b.took status other texts more left right a.headline head in
     record {
-      same_queries = a.listed ∙ ap (λ n. run_of n ∷ []) same.same_ticks ∙ sym b.listed;
+      same_queries = ap (map but_for_runs) a.listed ∙ ap (λ (r : QueryRun). r ∷ []) (by-ticks a.took b.took same.same_ticks) ∙ sym (ap (map but_for_runs) b.listed);
       same_status = same.same_status;
       same_texts = same.same_texts;
     }
 
 pub one-outcome : (o : AreOne) (manner : Manner) (text goal : List ℕ) (texts more : List (List ℕ)) (queries runs : List QueryRun) (log : List LogEntry) (status other : ℕ) →
-    ComesText manner text goal (lists queries log) status texts → ComesText manner text goal (lists runs log) other more → AreOneOutcome queries runs status other texts more
-one-outcome o manner text goal texts more queries runs log status other (refused line is a) (refused lines are b) = record {
-  same_queries = a.none_ran ∙ sym b.none_ran;
+    ComesText manner text goal (lists queries log) status texts → ComesText manner text goal (lists runs log) other more → status ≢ 6 → other ≢ 6 → AreOneOutcome queries runs status other texts more
+one-outcome o manner text goal texts more queries runs log status other (refused line is a) (refused lines are b) left right = record {
+  same_queries = none-ran queries runs a.none_ran b.none_ran;
   same_status = a.is_its ∙ sym b.is_its;
   same_texts = a.written ∙ ap (λ (l : List ℕ). l ∷ []) (one-line o text goal line lines is are) ∙ sym b.written;
 }
-one-outcome o manner text goal texts more queries runs log status other (refused line is a) (ran q f asks b) = absurd (not-both o text goal line q f is asks)
-one-outcome o manner text goal texts more queries runs log status other (ran p e asks a) (refused line is b) = absurd (not-both o text goal line p e is asks)
-one-outcome o manner text goal texts more queries runs log status other (ran p e asks a) (ran q f ask b) =
+one-outcome o manner text goal texts more queries runs log status other (refused line is a) (ran q f asks b) left right = absurd (not-both o text goal line q f is asks)
+one-outcome o manner text goal texts more queries runs log status other (ran p e asks a) (refused line is b) left right = absurd (not-both o text goal line p e is asks)
+one-outcome o manner text goal texts more queries runs log status other (ran p e asks a) (ran q f ask b) left right =
     let same : (q ≡ p) × (f ≡ e) = one-asked o text goal q p f e ask.faultless asks.faultless in
-    one-ran manner log p q e f queries runs status other texts more same.0 same.1 a b
+    one-ran manner log p q e f queries runs status other texts more same.0 same.1 left right a b
 
 -- ---- one print
 
+pub record AreOnePrint (queries runs : List QueryRun) (status other : ℕ) (texts more : List (List ℕ)) : Type 0 where
+  pub same_queries : queries ≡ runs
+  pub same_status : status ≡ other
+  pub same_texts : texts ≡ more
+
 one-text : (text other : List ℕ) (its another status more : ℕ) (queries runs : List QueryRun) (texts others : List (List ℕ)) → text ≡ other → its ≡ another →
-    IsLine text its status queries texts → IsLine other another more runs others → AreOneOutcome queries runs status more texts others
+    IsLine text its status queries texts → IsLine other another more runs others → AreOnePrint queries runs status more texts others
 one-text text other its another status more queries runs texts others same its_same a b = record {
   same_queries = a.none_ran ∙ sym b.none_ran;
   same_status = a.is_its ∙ its_same ∙ sym b.is_its;
@@ -182,7 +218,7 @@ one-text text other its another status more queries runs texts others same its_s
 }
 
 pub one-printed : (o : AreOne) (text : List ℕ) (queries runs : List QueryRun) (status other : ℕ) (texts more : List (List ℕ)) → ComesPrinted text queries status texts → ComesPrinted text runs other more →
-    AreOneOutcome queries runs status other texts more
+    AreOnePrint queries runs status other texts more
 one-printed o text queries runs status other texts more (faulty x a is) (faulty y b is') =
     one-text (of_program x) (of_program y) 3 3 status other queries runs texts more (ap of_program (one-program-line o text x y a b)) refl is is'
 one-printed o text queries runs status other texts more (faulty x a is) (printed q b is') = absurd (program-no-line o text x q b a)

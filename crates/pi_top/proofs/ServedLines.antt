@@ -19,6 +19,7 @@ use Rattle.pi_top.specs.AskingCode.{IsAskedOf}
 use Rattle.pi_top.specs.ServingCode.{Keeps, ServesTo}
 use Rattle.pi_top.proofs.HandedTexts.{fails-one}
 use Rattle.pi_top.proofs.ServedTurns.{serves-first, serves-more}
+use Rattle.pi_top.specs.Took.{took_in}
 use Rattle.pi_top.specs.QueryWords.{begun_query, listed_over, session_of}
 
 -- the write of a line fails
@@ -57,9 +58,9 @@ pub kept-answers : {S M : Type 0} (seen : S → StoreView M) (order : M → ℕ)
     ServesTo (session_of seen order manner program core) present another r (listed_over old new) writes
 kept-answers seen order manner program core run no_query r old new writes keeps comes = absurd keeps
 kept-answers seen order manner program core run (query goal requests first) r old new writes keeps comes =
-    let answers = comes first keeps.q keeps.earlier (run_of run.budget.ticks) keeps.last.listed keeps.can in
+    let answers = comes first keeps.q keeps.earlier (run_of (took_in run.budget)) keeps.last.listed keeps.can in
     subst (λ l. ServesTo (session_of seen order manner program core) (query goal requests first) another r (listed_over l new) writes) (sym keeps.last.listed)
-    (serves-more seen order manner program core keeps.q goal requests run.budget.ticks r keeps.earlier new first writes keeps.runs
+    (serves-more seen order manner program core keeps.q goal requests (took_in run.budget) r keeps.earlier new first writes keeps.runs
     (subst (λ n. AnswerComes (machine_view seen order) manner (begun_query core keeps.q n keeps.earlier) r new (first ++ writes)) keeps.so_many answers))
 
 -- the line is too long

@@ -12,7 +12,7 @@ use Rattle.pi_top_words.specs.declared.asked.Options.{Options}
 use Rattle.pi_top.specs.Faults.{FaultCount, Rises}
 use Rattle.pi_top.specs.Judged.{IsProgramText, Asks}
 use Rattle.pi_top.specs.Manner.{manner_of, goal_of}
-use Rattle.pi_top.specs.Runs.{HasRan}
+use Rattle.pi_top.specs.Runs.{HasRan, HaveWorkLeft}
 use Rattle.pi_top.specs.SoleLine.{IsLine}
 use Rattle.pi_top.specs.Handing.{Written}
 use Rattle.pi_top.specs.Texts.{IsRead}
@@ -21,10 +21,11 @@ use Rattle.pi_top_words.specs.Words.{options, places_of}
 use Rattle.pi_top.specs.Ends.{AsksSession}
 use Rattle.pi_top.specs.Demo.{demo_program}
 
--- the words are those of a command line, neither text has a fault, and neither count of faults rose: that of the files, and that of the sink
-pub record NothingFails (words : List (List ℕ)) (asked : Options) (status : ℕ) (files sink : FaultCount) : Type 0 where
+-- the words are those of a command line, neither text has a fault, no goal's work reached what it may do, and neither count of faults rose: that of the files, and that of the sink
+pub record NothingFails (words : List (List ℕ)) (asked : Options) (queries : List QueryRun) (status : ℕ) (files sink : FaultCount) : Type 0 where
   pub asks : options words ≡ Some asked
   pub no_fault : status ≢ 3
+  pub work_left : HaveWorkLeft asked.work queries
   pub no_read_fails : Rises files → ⊥
   pub no_write_fails : Rises sink → ⊥
 
@@ -41,6 +42,7 @@ pub record IsComplete (asked : Options) (held : Option Holding) (runs : Lists) (
   pub of_program : ExpTree
   pub asks : Asks text (goal_of asked) program of_program
   pub ran : Written (HasRan (manner_of asked) program of_program runs status) writes
+  pub not_spent : status ≢ 6
 
 -- the program was printed whole: its status is 0
 pub record IsPrinted (asked : Options) (held : Option Holding) (queries : List QueryRun) (status : ℕ) (writes : List SinkWrite) : Type 0 where

@@ -35,4 +35,5 @@ pub mod Turn
 pub mod Over
 pub mod Promise
 pub mod Told
+pub mod Took
 pub mod QueryWords

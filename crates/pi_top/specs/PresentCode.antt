@@ -14,48 +14,48 @@ use Rattle.pi_top.specs.declared.query.Stop.{Stop}
 use Rattle.pi_top.specs.Stops.{status_of_stop}
 use Rattle.pi_top.specs.QueryWords.{BegunQuery, asked_in, told_query}
 use Rattle.pi_top.specs.Running.{IsWritten}
-use Rattle.pi_top.specs.Runs.{no_work, run_of}
+use Rattle.pi_top.specs.Runs.{run_of}
+use Rattle.pi_top.specs.Took.{Bounds, bounds_of, bounds_in, Took, took_in}
 use Rattle.pi_top.specs.Turn.{EndsAt, IsCutAt}
 
 -- a query may be asked for more answers, with what it has used so far
-pub record IsInBudget (steps : ℕ) (budget : Budget) : Type 0 where
+pub record IsInBudget (may : Bounds) (budget : Budget) : Type 0 where
   pub within : IsWithin budget
-  pub its_steps : budget.steps ≡ steps
+  pub its_bounds : bounds_in budget ≡ may
 
 -- where there is one
-abbrev pub IsBounded : {S M : Type 0} → ℕ → Option (PresentRun S M) → Type 0
-IsBounded steps None = Unit {0}
-IsBounded steps (Some present) = IsInBudget steps present.budget
+abbrev pub IsBounded : {S M : Type 0} → Bounds → Option (PresentRun S M) → Type 0
+IsBounded may None = Unit {0}
+IsBounded may (Some present) = IsInBudget may present.budget
 
 -- so many of its answers were written, by these writes, and more of them are asked for
 pub record CanAnswer {M : Type 0} (manner : Manner) (program : List PredTree) (q : QueryTree) (m : MachineView M) (budget : Budget) (given : ℕ) (first : List SinkWrite) : Type 0 where
   pub written : IsWritten (told_query manner.lines program q) m budget given first
   pub runnable : IsRunnable program q
   pub fewer : given < manner.answers
-  pub its_steps : budget.steps ≡ manner.steps
-  pub workless : budget.work ≡ no_work
+  pub its_bounds : bounds_in budget ≡ bounds_of manner
 
--- it is listed last, with its Ticks
-pub record IsListedLast (earlier : List QueryRun) (ticks : ℕ) (queries : List QueryRun) : Type 0 where
-  pub listed : queries ≡ earlier ++ run_of ticks ∷ []
+-- it is listed last, with what it took
+pub record IsListedLast (earlier : List QueryRun) (took : Took) (queries : List QueryRun) : Type 0 where
+  pub listed : queries ≡ earlier ++ run_of took ∷ []
 
 -- one answer more was written, and more of them may be asked for
 pub record AnswersMore {M : Type 0} (manner : Manner) (program : List PredTree) (q : QueryTree) (m : MachineView M) (budget : Budget) (given more : ℕ) (earlier queries : List QueryRun) (writes : List SinkWrite) : Type 0 where
   pub one_more : more ≡ given + 1
   pub can : CanAnswer manner program q m budget more writes
-  pub last : IsListedLast earlier budget.ticks queries
+  pub last : IsListedLast earlier (took_in budget) queries
 
 -- its end was written
 pub record AnswersEnd (manner : Manner) (program : List PredTree) (q : QueryTree) (given : ℕ) (earlier queries : List QueryRun) (writes : List SinkWrite) : Type 0 where
-  pub ticks : ℕ
-  pub ends : EndsAt (asked_in manner program q) (given + 1) ticks writes
-  pub last : IsListedLast earlier ticks queries
+  pub took : Took
+  pub ends : EndsAt (asked_in manner program q) (given + 1) took writes
+  pub last : IsListedLast earlier took queries
 
 -- it was cut off
 pub record AnswersCut (manner : Manner) (program : List PredTree) (q : QueryTree) (given : ℕ) (earlier queries : List QueryRun) (status : ℕ) (writes : List SinkWrite) : Type 0 where
-  pub ticks : ℕ
-  pub cut : IsCutAt (asked_in manner program q) (given + 1) ticks status writes
-  pub last : IsListedLast earlier ticks queries
+  pub took : Took
+  pub cut : IsCutAt (asked_in manner program q) (given + 1) took status writes
+  pub last : IsListedLast earlier took queries
 
 -- what a request of it comes to, by what is answered
 abbrev pub AnswerComes : {S M : Type 0} → (Machine S M → MachineView M) → Manner → BegunQuery → Result (Option (PresentRun S M)) Stop → List QueryRun → List SinkWrite → Type 0

@@ -14,6 +14,7 @@ use Rattle.pi_top.specs.Runs.{AllWithin}
 use Rattle.pi_top.specs.SessionEnds.{SessionEnds}
 use Rattle.pi_top.specs.declared.outcome.Outcome.{Outcome}
 use Rattle.pi_top.specs.Told.{files_read, input_read, lists, sink_written}
+use Rattle.pi_top.specs.Took.{bounds_asked}
 
 -- Of a session's input so many bytes are taken at most; one that has more is too long.
 pub record Promise {F I O : Type 0} (most : ℕ) (words : List (List ℕ)) (files : FilesOver F) (input : InputOver I) (out : SinkOver O)
@@ -31,9 +32,9 @@ pub record Promise {F I O : Type 0} (most : ℕ) (words : List (List ℕ)) (file
       (λ inputs. ByWrites out.wrote out.taken out.old out.new (λ writes. (asked : Options) → AsksSession (options words) asked →
       SessionEnds asked (files_read (files.held files.new) (files_count files) reads) (input_read most (input_count input) inputs)
       (lists outcome.queries outcome.log) outcome.status (sink_written (sink_count out) writes))))
-  -- Where nothing fails, what the words ask is done to its end, or memory is wanted.
+  -- Where nothing fails and work is left, what the words ask is done to its end, or memory is wanted.
   pub complete : ByWrites out.wrote out.taken out.old out.new (λ writes. (asked : Options) → AsksNoSession (options words) →
-      NothingFails words asked outcome.status (files_count files) (sink_count out) →
+      NothingFails words asked outcome.queries outcome.status (files_count files) (sink_count out) →
       Completes asked (files.held files.new) (lists outcome.queries outcome.log) outcome.status writes)
   -- So it is with a session.
   pub complete_session : (asked : Options) →
@@ -61,5 +62,5 @@ pub record Promise {F I O : Type 0} (most : ℕ) (words : List (List ℕ)) (file
   pub no_log : outcome.log ≡ []
   -- None was begun.
   pub none_entered : outcome.entered ≡ []
-  -- No goal took more Ticks than the words allow.
-  pub ran : (asked : Options) → options words ≡ Some asked → AllWithin asked.steps outcome.queries
+  -- No goal took more Ticks, or did more work, than the words allow.
+  pub ran : (asked : Options) → options words ≡ Some asked → AllWithin (bounds_asked asked) outcome.queries

@@ -2,19 +2,21 @@
 use Rattle.std.specs.Prelude.{◌≡◌, ◌<◌, ℕ, suc, List, [], ◌∷◌, ◌++◌, true, ◌≢◌}
 use lib.Chars.{codes}
 use Rattle.pi_terms.specs.Tree.{Tree}
-use Rattle.pi_traces.specs.Trace.{Done, Raise, Emitted, noted, answered}
+use Rattle.pi_traces.specs.Trace.{Done, Raise, Load, Emitted, noted, answered}
 use Rattle.pi_traces.specs.Depth.{Cut, Stop, Ended, Spent}
 use Rattle.pi_meaning.specs.OverNames.Telling.{Told}
 use Rattle.pi_syntax.specs.PrintTerm.{text_of}
+use Rattle.pi_top.specs.Prefix.{IsPrefix}
 
 -- As many answers were written as are asked for; the trace ended, with an answer or without one; it ended in an exception that
--- nothing caught; the Ticks are spent.
+-- nothing caught; the Ticks are spent; the work is.
 pub data QueryEnd : Type 0 where
   Stopped : QueryEnd
   NoMore : QueryEnd
   No : QueryEnd
   Exception : Tree → QueryEnd
   StepsSpent : QueryEnd
+  WorkSpent : QueryEnd
 
 abbrev pub line_of : QueryEnd → List ℕ
 line_of Stopped = codes "stopped\n"
@@ -22,6 +24,7 @@ line_of NoMore = codes "no more\n"
 line_of No = codes "no\n"
 line_of (Exception ball) = codes "exception: " ++ (text_of true ball ++ codes "\n")
 line_of StepsSpent = codes "steps spent\n"
+line_of WorkSpent = codes "work spent\n"
 
 abbrev pub status_of : QueryEnd → ℕ
 status_of Stopped = 0
@@ -29,6 +32,7 @@ status_of NoMore = 0
 status_of No = 1
 status_of (Exception ball) = 4
 status_of StepsSpent = 5
+status_of WorkSpent = 6
 
 -- how many answers a part of a run has
 unfoldable pub count_answers : {A : Type 0} → List (Emitted A) → ℕ
@@ -49,6 +53,12 @@ pub record IsWhole {A : Type 0} (asked : ℕ) (part : List (Emitted A)) (run : C
   pub whole : run.events ≡ part
   pub stops : run.stop ≡ stop
 
+-- a part has fewer answers than are asked for, and the run goes on behind it with a propagation
+pub record IsBeforeLoad {A : Type 0} (asked : ℕ) (part : List (Emitted A)) (run : Cut A) : Type 0 where
+  pub fewer : count_answers part < asked
+  pub load : ℕ
+  pub next : IsPrefix (part ++ noted (Load load) ∷ []) run.events
+
 -- when a query ends so, where a part of its run was written
 abbrev pub Ends : {A : Type 0} → ℕ → List (Emitted A) → Cut A → QueryEnd → Type 0
 Ends asked part run Stopped = EndsWithLast asked part
@@ -56,6 +66,7 @@ Ends asked part run NoMore = IsWhole asked part run (Ended Done) × (0 < count_a
 Ends asked part run No = IsWhole asked part run (Ended Done) × (count_answers part ≡ 0)
 Ends asked part run (Exception ball) = IsWhole asked part run (Ended (Raise ball))
 Ends asked part run StepsSpent = IsWhole asked part run Spent
+Ends asked part run WorkSpent = IsBeforeLoad asked part run
 
 -- no two of them fit
 abbrev pub EndingIsOne : Type 0

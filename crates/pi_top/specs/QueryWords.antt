@@ -6,6 +6,7 @@ use Rattle.pi_constraints.specs.Store.{StoreView}
 use Rattle.pi_top.specs.declared.manner.Lines.{Lines}
 use Rattle.pi_top.specs.declared.manner.Manner.{Manner}
 use Rattle.pi_top.specs.declared.runs.QueryRun.{QueryRun}
+use Rattle.pi_top.specs.Took.{Bounds, bounds_of}
 
 -- a query of a core program, and which lines of its run are written
 pub record ToldQuery : Type 0 where
@@ -16,20 +17,20 @@ pub record ToldQuery : Type 0 where
 abbrev pub told_query : Lines → List PredTree → QueryTree → ToldQuery
 told_query lines program query = record { lines = lines; program = program; query = query }
 
--- the same with how many answers are asked for, and how many Ticks it may take
+-- the same with how many answers are asked for, and what it may take
 pub record AskedQuery : Type 0 where
   pub lines : Lines
   pub answers : ℕ
-  pub steps : ℕ
+  pub bounds : Bounds
   pub program : List PredTree
   pub query : QueryTree
 
-abbrev pub asked_query : Lines → ℕ → ℕ → List PredTree → QueryTree → AskedQuery
-asked_query lines answers steps program query = record { lines = lines; answers = answers; steps = steps; program = program; query = query }
+abbrev pub asked_query : Lines → ℕ → Bounds → List PredTree → QueryTree → AskedQuery
+asked_query lines answers bounds program query = record { lines = lines; answers = answers; bounds = bounds; program = program; query = query }
 
 -- in some manner
 abbrev pub asked_in : Manner → List PredTree → QueryTree → AskedQuery
-asked_in manner program query = asked_query manner.lines manner.answers manner.steps program query
+asked_in manner program query = asked_query manner.lines manner.answers (bounds_of manner) program query
 
 -- a query of a core program of which so many answers were written, listed behind these
 pub record BegunQuery : Type 0 where

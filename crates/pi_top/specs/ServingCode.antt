@@ -18,6 +18,7 @@ use Rattle.pi_top.specs.Stops.{status_of_stop}
 use Rattle.pi_top.specs.Serving.{Present, no_query, query, Serves, CutServing}
 use Rattle.pi_top.specs.PresentCode.{CanAnswer, IsListedLast}
 use Rattle.pi_top.specs.QueryWords.{SessionOf, session_of, ListedOver}
+use Rattle.pi_top.specs.Took.{took_in}
 
 -- what a session is, by the code's own, over a kind of store
 abbrev pub its_session : {S M : Type 0} → (S → StoreView M) → (M → ℕ) → Session → SessionOf S M
@@ -30,7 +31,7 @@ pub record IsKept {M : Type 0} (manner : Manner) (program : ProgramTree) (core :
   pub can : CanAnswer manner core q m budget given first
   pub so_many : given ≡ requests
   pub earlier : List QueryRun
-  pub last : IsListedLast earlier budget.ticks queries
+  pub last : IsListedLast earlier (took_in budget) queries
 
 -- this is the present query, by what the code has of it
 abbrev pub Keeps : {S M : Type 0} → SessionOf S M → Option (PresentRun S M) → Present → List QueryRun → Type 0

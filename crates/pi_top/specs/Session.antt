@@ -1,5 +1,5 @@
 -- A session: the lines of its input are served one after the other, each by its reads and then its writes. That a line is served before the input is read again shows where a write of it fails: the reads end with that line.
-use Rattle.std.specs.Prelude.{◌≡◌, ℕ, suc, List, [], ◌∷◌, ◌++◌, take}
+use Rattle.std.specs.Prelude.{◌≡◌, ℕ, suc, List, [], ◌∷◌, ◌++◌, take, map}
 use Rattle.pi_outside.specs.Inputs.{SourceRead, given_in}
 use Rattle.pi_outside.specs.Writes.{SinkWrite, taken_by}
 use Rattle.pi_syntax.specs.ProgramTree.{ProgramTree}
@@ -12,6 +12,7 @@ use Rattle.pi_top.specs.declared.manner.Manner.{Manner}
 use Rattle.pi_top.specs.declared.runs.QueryRun.{QueryRun}
 use Rattle.pi_top.specs.Faults.{FaultCount, Stands, Rises}
 use Rattle.pi_top.specs.Handing.{HandsAll, FailsIn}
+use Rattle.pi_top.specs.Runs.{HaveWorkLeft, but_for_runs}
 use Rattle.pi_top.specs.Serving.{Present, no_query, input_too_long_line, Serves, CutServing}
 use Rattle.pi_top.specs.SoleLine.{read_fault_line}
 use Rattle.pi_top.specs.Told.{InputRead, input_read, Lists, lists}
@@ -65,8 +66,9 @@ abbrev pub ServesItsLines : Type 0
 ServesItsLines = (manner : Manner) (program : ProgramTree) (log : List LogEntry) (most : ℕ) (lines : List (List ℕ)) (present : Present) (runs : List QueryRun) (ahead : Ahead) (reads : List SourceRead) (writes : List SinkWrite) →
     ServedSoFar manner program log most lines present runs ahead reads writes → FoundSoFar most lines reads ahead
 
--- Where no read of it fails, and the input gave the same, up to one byte more than it may have, a session comes to one thing, whatever the pieces: its status, the goals that were run with their Ticks, and the bytes that were written.
+-- Where no read of it fails, no query's work reached what it may do, and the input gave the same, up to one byte more than it may have, a session comes to one thing, whatever the pieces: its status, the goals that were run with their Ticks, and the bytes that were
+-- written. Of the runs of propagators that a query took there are bounds alone.
 abbrev pub SessionsAreOne : Type 0
 SessionsAreOne = (manner : Manner) (program : ProgramTree) (log : List LogEntry) (most : ℕ) (input other : FaultCount) (queries runs : List QueryRun) (status its : ℕ) (reads more : List SourceRead) (writes others : List SinkWrite) →
-    (Rises input → ⊥) → (Rises other → ⊥) → take (suc most) (given_in reads) ≡ take (suc most) (given_in more) →
-    SessionComes manner program (input_read most input reads) (lists queries log) status writes → SessionComes manner program (input_read most other more) (lists runs log) its others → (status ≡ its) × (queries ≡ runs) × (taken_by writes ≡ taken_by others)
+    (Rises input → ⊥) → (Rises other → ⊥) → HaveWorkLeft manner.work queries → HaveWorkLeft manner.work runs → take (suc most) (given_in reads) ≡ take (suc most) (given_in more) →
+    SessionComes manner program (input_read most input reads) (lists queries log) status writes → SessionComes manner program (input_read most other more) (lists runs log) its others → (status ≡ its) × (map but_for_runs queries ≡ map but_for_runs runs) × (taken_by writes ≡ taken_by others)

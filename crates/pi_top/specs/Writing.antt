@@ -6,7 +6,7 @@ use Rattle.pi_top.specs.declared.manner.Lines.{Lines}
 use Rattle.pi_top.specs.declared.query.Stop.{Stop}
 use Rattle.pi_top.specs.declared.query.Stop.TheVariants.{Write, Memory}
 use Rattle.pi_top.specs.Handing.{HandsAll, FailsIn}
-use Rattle.pi_top.specs.QueryEnd.{QueryEnd, NoMore, No, Exception, StepsSpent, status_of}
+use Rattle.pi_top.specs.QueryEnd.{QueryEnd, NoMore, No, Exception, StepsSpent, WorkSpent, status_of}
 use Rattle.pi_top.specs.ToldLines.{end_lines}
 
 -- the write of one of them failed; or memory was wanted, and nothing was written
@@ -36,8 +36,8 @@ WritesEnd lines Happening.Done true answer writes = WritesLine lines NoMore answ
 WritesEnd lines Happening.Done false answer writes = WritesLine lines No answer writes
 WritesEnd lines (Happening.Raised ball) has answer writes = WritesLine lines (Exception ball) answer writes
 WritesEnd lines Happening.StepsSpent has answer writes = WritesLine lines StepsSpent answer writes
+WritesEnd lines Happening.WorkSpent has answer writes = WritesLine lines WorkSpent answer writes
 WritesEnd lines Happening.Memory has answer writes = WritesNothing answer writes
 WritesEnd lines (Happening.Answer a) has answer writes = ⊤
 WritesEnd lines (Happening.Out text) has answer writes = ⊤
 WritesEnd lines (Happening.NeedPlan call) has answer writes = ⊤
-WritesEnd lines Happening.WorkSpent has answer writes = ⊤

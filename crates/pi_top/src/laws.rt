@@ -1,5 +1,5 @@
 //! Laws of the definitions of what picatq answers.
-ghost use Rattle.std.specs.Prelude.{◌≡◌, ◌≢◌, ℕ, List};
+ghost use Rattle.std.specs.Prelude.{◌≡◌, ◌≢◌, ℕ, List, map};
 ghost use Rattle.pi_syntax.specs.ExpTree.{ExpTree};
 ghost use Rattle.pi_syntax.specs.ProgramTree.{ProgramTree};
 ghost use Rattle.pi_syntax.specs.Tokens.{Token};
@@ -11,6 +11,7 @@ ghost use Rattle.pi_top.specs.declared.runs.QueryRun.{QueryRun};
 ghost use Rattle.pi_top.specs.Judged.{Refused, Asks, AreFaultless};
 ghost use Rattle.pi_top.specs.QueryEnd.{EndingIsOne};
 ghost use Rattle.pi_top.specs.Asking.{IsReady, IsUnready, AsksOf, RefusesOf};
+ghost use Rattle.pi_top.specs.Runs.{but_for_runs};
 ghost use Rattle.pi_top.specs.Session.{ServesItsLines, SessionsAreOne};
 ghost use Rattle.pi_top.specs.SoleLine.{IsLine};
 ghost use Rattle.pi_top.specs.Statuses.{ComesText, ComesPrinted};
@@ -33,8 +34,8 @@ pub fn judgements_are_one()
 
 /// A program's text is ready for the goals of a session, or a line says why none is asked, and never both, each in one way; so it is with a
 /// goal's text that is asked of a program then. The lines that a session served are those that were found in its input. And where no
-/// read of the input fails, no write, and no memory is wanted, program, manner, log and input decide its status, the goals that
-/// were run with their Ticks, and the bytes that are written.
+/// read of the input fails, no write, no memory is wanted and no query's work reaches what it may do, program, manner, log and input decide
+/// its status, the goals that were run with their Ticks, and the bytes that are written.
 pub fn sessions_are_one()
     ensures program { (text : List ℕ) (program other : ProgramTree) → IsReady text program → IsReady text other → program ≡ other }
     ensures program_line { (text line other : List ℕ) → IsUnready text line → IsUnready text other → line ≡ other }
@@ -53,9 +54,9 @@ pub fn sessions_are_one()
 }
 
 /// No two endings fit one part of one run. Where a goal is asked 3 comes exactly where the texts come to a line, and this line is then
-/// all that is written. And where neither a read nor a write fails and memory isn't wanted, the two texts, the manner of asking and the log
-/// decide the status, the goals that were run with their Ticks, and the texts that are written; and so does a program's text
-/// where it is printed.
+/// all that is written. And where neither a read nor a write fails, memory isn't wanted and the work isn't spent, the two texts, the manner
+/// of asking and the log decide the status, the goals that were run with their Ticks, and the texts that are written; and so does a
+/// program's text where it is printed.
 pub fn outcomes_are_one()
     ensures endings { EndingIsOne }
     ensures refused { (manner : Manner) (text goal line : List ℕ) (texts : List (List ℕ)) (queries : List QueryRun)
@@ -66,13 +67,14 @@ pub fn outcomes_are_one()
         ComesText manner text goal (lists queries log) status texts → status ≢ 3 }
     ensures status { (manner : Manner) (text goal : List ℕ) (texts others : List (List ℕ)) (queries runs : List QueryRun)
         (log : List LogEntry) (status other : ℕ) → ComesText manner text goal (lists queries log) status texts →
-        ComesText manner text goal (lists runs log) other others → status ≡ other }
+        ComesText manner text goal (lists runs log) other others → status ≢ 6 → other ≢ 6 → status ≡ other }
     ensures queries { (manner : Manner) (text goal : List ℕ) (texts others : List (List ℕ)) (queries runs : List QueryRun)
         (log : List LogEntry) (status other : ℕ) → ComesText manner text goal (lists queries log) status texts →
-        ComesText manner text goal (lists runs log) other others → queries ≡ runs }
+        ComesText manner text goal (lists runs log) other others → status ≢ 6 → other ≢ 6 →
+        map but_for_runs queries ≡ map but_for_runs runs }
     ensures texts { (manner : Manner) (text goal : List ℕ) (texts others : List (List ℕ)) (queries runs : List QueryRun)
         (log : List LogEntry) (status other : ℕ) → ComesText manner text goal (lists queries log) status texts →
-        ComesText manner text goal (lists runs log) other others → texts ≡ others }
+        ComesText manner text goal (lists runs log) other others → status ≢ 6 → other ≢ 6 → texts ≡ others }
     ensures printed { (text : List ℕ) (texts others : List (List ℕ)) (queries runs : List QueryRun) (status other : ℕ) →
         ComesPrinted text queries status texts → ComesPrinted text runs other others →
         (queries ≡ runs) × (status ≡ other) × (texts ≡ others) }

@@ -4,13 +4,13 @@ ghost use Rattle.pi_outside.specs.Writes.{ByWrites, SinkWrite};
 ghost use Rattle.pi_core.specs.CoreTree.{PredTree, QueryTree};
 ghost use Rattle.pi_meaning.specs.Machine.Budget.{IsWithin};
 ghost use Rattle.pi_meaning.specs.Machine.Built.{IsRunnable};
-ghost use Rattle.pi_meaning.specs.declared.happening.Mode.{Mode};
 ghost use Rattle.pi_engine.specs.Seen.{machine_view, mode_of};
 ghost use Rattle.pi_top.specs.declared.runs.QueryRun.{QueryRun};
 ghost use Rattle.pi_top.specs.Faults.{TellsWrites};
 ghost use Rattle.pi_top.specs.Running.{IsWritten};
 ghost use Rattle.pi_top.specs.Runs.{AllWithin};
 ghost use Rattle.pi_top.specs.PresentCode.{IsInBudget, IsBounded, CanAnswer, AnswerComes};
+ghost use Rattle.pi_top.specs.Took.{bounds_of, bounds_in, KeepsRest};
 ghost use Rattle.pi_top.specs.Turn.{TurnComes};
 ghost use Rattle.pi_top.specs.QueryWords.{asked_query, begun_query, told_query};
 
@@ -39,9 +39,9 @@ pub fn answer<'p, S: StateStore, O: Sink>(
     queries: &mut Queries,
 ) -> Result<Option<Present<'p, S>>, Stop>
     ensures writes { TellsWrites (O.faults out.old) (O.faults out.new) result }
-    ensures ran { IsInBudget manner.now.steps present.entry.budget → AllWithin manner.now.steps queries.old →
-        AllWithin manner.now.steps queries.new }
-    ensures bounded { IsInBudget manner.now.steps present.entry.budget → IfOk result (IsBounded manner.now.steps) }
+    ensures ran { IsInBudget (bounds_of manner.now) present.entry.budget → AllWithin (bounds_of manner.now) queries.old →
+        AllWithin (bounds_of manner.now) queries.new }
+    ensures bounded { IsInBudget (bounds_of manner.now) present.entry.budget → IfOk result (IsBounded (bounds_of manner.now)) }
     ensures comes { ByWrites O.wrote O.taken out.old out.new
         (λ writes. (first : List SinkWrite) (program : List PredTree) (q : QueryTree) (earlier : List QueryRun) (run : QueryRun) →
         queries.old ≡ earlier ++ run ∷ [] → CanAnswer manner.now program q
@@ -78,14 +78,13 @@ fn write_next<S: StateStore, O: Sink>(
 ) -> Result<Option<u64>, Stop>
     ensures writes { TellsWrites (O.faults out.old) (O.faults out.new) result }
     ensures within { IsWithin budget.old → IsWithin budget.new }
-    ensures steps { budget.new.steps ≡ budget.old.steps }
+    ensures rest { KeepsRest (mode_of (machine_view S.seen S.order machine.old)) budget.old budget.new }
     ensures mode { mode_of (machine_view S.seen S.order machine.new) ≡ mode_of (machine_view S.seen S.order machine.old) }
-    ensures work { mode_of (machine_view S.seen S.order machine.old) ≡ Mode.Top → budget.new.work ≡ budget.old.work }
     ensures comes { ByWrites O.wrote O.taken out.old out.new
         (λ writes. (first : List SinkWrite) (program : List PredTree) (q : QueryTree) →
         IsWritten (told_query manner.now.lines program q) (machine_view S.seen S.order machine.old) budget.old given first →
         IsRunnable program q → given < manner.now.answers →
-        TurnComes (asked_query manner.now.lines manner.now.answers budget.old.steps program q) given
+        TurnComes (asked_query manner.now.lines manner.now.answers (bounds_in budget.old) program q) given
         (machine_view S.seen S.order machine.new) budget.new result (first ++ writes)) }
 {
     match next_told(machine, budget, out)? {

@@ -6,7 +6,6 @@ ghost use Rattle.pi_core.specs.CoreTree.{PredTree, QueryTree, program_tree, quer
 ghost use Rattle.pi_print_terms.specs.PrintAnswer.{answer_lines};
 ghost use Rattle.pi_constraints.specs.State.{empty_state};
 ghost use Rattle.pi_meaning.specs.Machine.Budget.{IsWithin};
-ghost use Rattle.pi_meaning.specs.declared.happening.Mode.{Mode};
 ghost use Rattle.pi_meaning.specs.Machine.Built.{IsRunnable};
 ghost use Rattle.pi_engine.specs.Seen.{machine_view, mode_of};
 ghost use Rattle.pi_top.specs.declared.manner.Lines.{Lines};
@@ -16,6 +15,7 @@ ghost use Rattle.pi_top.specs.QueryEnd.{Exception, line_of, IsRun};
 ghost use Rattle.pi_top.specs.ToldLines.{where_told};
 ghost use Rattle.pi_top.specs.Running.{IsAtStart, IsSoFar, NextComes, ComesTo, HasRun};
 ghost use Rattle.pi_top.specs.Runs.{AllWithin};
+ghost use Rattle.pi_top.specs.Took.{bounds_of, bounds_in, took_in, KeepsRest};
 ghost use Rattle.pi_top.specs.Writing.{Writes, WritesEnd};
 ghost use Rattle.pi_top.specs.QueryWords.{asked_in, asked_query, told_query};
 
@@ -67,7 +67,7 @@ pub fn run_query<O: Sink>(
 ) -> Result<u8, Stop>
     ensures writes { TellsWrites (O.faults out.old) (O.faults out.new) result }
     ensures status { IfOk result IsRun }
-    ensures ran { AllWithin manner.now.steps queries.old → AllWithin manner.now.steps queries.new }
+    ensures ran { AllWithin (bounds_of manner.now) queries.old → AllWithin (bounds_of manner.now) queries.new }
     ensures comes { ByWrites O.wrote O.taken out.old out.new (λ writes. IsRunnable (program_tree core.now) (query_tree query) →
         0 < manner.now.answers →
         HasRun (asked_in manner.now (program_tree core.now) (query_tree query)) queries.old queries.new result writes) }
@@ -88,7 +88,7 @@ fn run_over<S: StateStore, O: Sink>(
 ) -> Result<u8, Stop>
     ensures writes { TellsWrites (O.faults out.old) (O.faults out.new) result }
     ensures status { IfOk result IsRun }
-    ensures ran { AllWithin manner.now.steps queries.old → AllWithin manner.now.steps queries.new }
+    ensures ran { AllWithin (bounds_of manner.now) queries.old → AllWithin (bounds_of manner.now) queries.new }
     ensures comes { ByWrites O.wrote O.taken out.old out.new (λ writes. (S.seen store).now.state ≡ empty_state →
         IsRunnable (program_tree core.now) (query_tree query) → 0 < manner.now.answers →
         HasRun (asked_in manner.now (program_tree core.now) (query_tree query)) queries.old queries.new result writes) }
@@ -114,11 +114,10 @@ fn write_answers<S: StateStore, O: Sink>(
     ensures writes { TellsWrites (O.faults out.old) (O.faults out.new) result }
     ensures status { IfOk result IsRun }
     ensures within { IsWithin budget.old → IsWithin budget.new }
-    ensures steps { budget.new.steps ≡ budget.old.steps }
-    ensures work { mode_of (machine_view S.seen S.order machine.old) ≡ Mode.Top → budget.new.work ≡ budget.old.work }
+    ensures rest { KeepsRest (mode_of (machine_view S.seen S.order machine.old)) budget.old budget.new }
     ensures comes { ByWrites O.wrote O.taken out.old out.new (λ writes. (program : List PredTree) (q : QueryTree) →
         IsAtStart (machine_view S.seen S.order machine.old) budget.old manner.now.answers program q →
-        ComesTo (asked_query manner.now.lines manner.now.answers budget.old.steps program q) budget.new.ticks result writes) }
+        ComesTo (asked_query manner.now.lines manner.now.answers (bounds_in budget.old) program q) (took_in budget.new) result writes) }
 {
     for given in 0..manner.answers {
         match next_told(machine, budget, out)? {
@@ -137,9 +136,8 @@ pub fn next_told<S: StateStore, O: Sink>(
 ) -> Result<Happening, Stop>
     ensures writes { TellsWrites (O.faults out.old) (O.faults out.new) result }
     ensures within { IsWithin budget.old → IsWithin budget.new }
-    ensures steps { budget.new.steps ≡ budget.old.steps }
+    ensures rest { KeepsRest (mode_of (machine_view S.seen S.order machine.old)) budget.old budget.new }
     ensures mode { mode_of (machine_view S.seen S.order machine.new) ≡ mode_of (machine_view S.seen S.order machine.old) }
-    ensures work { mode_of (machine_view S.seen S.order machine.old) ≡ Mode.Top → budget.new.work ≡ budget.old.work }
     ensures comes { ByWrites O.wrote O.taken out.old out.new
         (λ writes. (lines : Lines) (first : List SinkWrite) (given : ℕ) (program : List PredTree) (q : QueryTree) →
         IsSoFar (told_query lines program q) (machine_view S.seen S.order machine.old) budget.old given first → IsRunnable program q →

@@ -16,6 +16,7 @@ ghost use Rattle.pi_top.specs.QueryWords.{listed_over};
 ghost use Rattle.pi_top.specs.ServingCode.{Keeps, ServesTo, its_session};
 ghost use Rattle.pi_top.specs.SessionCode.{AnswersSession};
 ghost use Rattle.pi_top.specs.Told.{input_read};
+ghost use Rattle.pi_top.specs.Took.{bounds_of};
 
 use crate::asking::{GoalJudged, judge_goal};
 use crate::handed::{READ_FAULT, write_text};
@@ -58,7 +59,7 @@ impl<'p> Session<'p> {
         ensures reads { IfOk result (λ status. status ≡ 7 → Rose (I.faults input.old) (I.faults input.new)) }
         ensures status { IfOk result (λ status. status < 8) }
         ensures spent { IfOk result (λ status. status ≡ 0 → IsSpent (I.rest input.new)) }
-        ensures ran { AllWithin self.now.manner.steps queries.old → AllWithin self.now.manner.steps queries.new }
+        ensures ran { AllWithin (bounds_of self.now.manner) queries.old → AllWithin (bounds_of self.now.manner) queries.new }
         ensures comes { ByInput I.has_read I.rest input.old input.new
             (λ reads. ByWrites O.wrote O.taken out.old out.new
             (λ writes. MayBeAsked (source_tree self.now.program.now) (program_tree self.now.core.now) → 0 < self.now.manner.answers →
@@ -103,9 +104,9 @@ impl<'p> Session<'p> {
         queries: &mut Queries,
     ) -> Result<Standing<'p>, Stop>
         ensures writes { TellsWrites (O.faults out.old) (O.faults out.new) result }
-        ensures ran { IsBounded self.now.manner.steps present.entry → AllWithin self.now.manner.steps queries.old →
-            AllWithin self.now.manner.steps queries.new }
-        ensures bounded { IsBounded self.now.manner.steps present.entry → IfOk result (IsBounded self.now.manner.steps) }
+        ensures ran { IsBounded (bounds_of self.now.manner) present.entry → AllWithin (bounds_of self.now.manner) queries.old →
+            AllWithin (bounds_of self.now.manner) queries.new }
+        ensures bounded { IsBounded (bounds_of self.now.manner) present.entry → IfOk result (IsBounded (bounds_of self.now.manner)) }
         ensures comes { ByWrites O.wrote O.taken out.old out.new (λ writes. (query : PresentQuery) →
             MayBeAsked (source_tree self.now.program.now) (program_tree self.now.core.now) → 0 < self.now.manner.answers →
             Keeps (its_session ⟦<RawStore as StateStore>⟧.seen ⟦<RawStore as StateStore>⟧.order self.now) present.entry query queries.old →
@@ -135,9 +136,9 @@ impl<'p> Session<'p> {
         queries: &mut Queries,
     ) -> Result<Standing<'p>, Stop>
         ensures writes { TellsWrites (O.faults out.old) (O.faults out.new) result }
-        ensures ran { IsBounded self.now.manner.steps present.entry → AllWithin self.now.manner.steps queries.old →
-            AllWithin self.now.manner.steps queries.new }
-        ensures bounded { IsBounded self.now.manner.steps present.entry → IfOk result (IsBounded self.now.manner.steps) }
+        ensures ran { IsBounded (bounds_of self.now.manner) present.entry → AllWithin (bounds_of self.now.manner) queries.old →
+            AllWithin (bounds_of self.now.manner) queries.new }
+        ensures bounded { IsBounded (bounds_of self.now.manner) present.entry → IfOk result (IsBounded (bounds_of self.now.manner)) }
         ensures comes { ByWrites O.wrote O.taken out.old out.new (λ writes. (query : PresentQuery) →
             Keeps (its_session ⟦<RawStore as StateStore>⟧.seen ⟦<RawStore as StateStore>⟧.order self.now) present.entry query queries.old →
             ServesTo (its_session ⟦<RawStore as StateStore>⟧.seen ⟦<RawStore as StateStore>⟧.order self.now) query
@@ -160,8 +161,8 @@ impl<'p> Session<'p> {
         queries: &mut Queries,
     ) -> Result<Standing<'p>, Stop>
         ensures writes { TellsWrites (O.faults out.old) (O.faults out.new) result }
-        ensures ran { AllWithin self.now.manner.steps queries.old → AllWithin self.now.manner.steps queries.new }
-        ensures bounded { IfOk result (IsBounded self.now.manner.steps) }
+        ensures ran { AllWithin (bounds_of self.now.manner) queries.old → AllWithin (bounds_of self.now.manner) queries.new }
+        ensures bounded { IfOk result (IsBounded (bounds_of self.now.manner)) }
         ensures comes { ByWrites O.wrote O.taken out.old out.new (λ writes. (query : PresentQuery) →
             MayBeAsked (source_tree self.now.program.now) (program_tree self.now.core.now) → 0 < self.now.manner.answers →
             ServesTo (its_session ⟦<RawStore as StateStore>⟧.seen ⟦<RawStore as StateStore>⟧.order self.now) query

@@ -9,6 +9,7 @@ ghost use Rattle.pi_top.specs.Faults.{TellsWrites, counted};
 ghost use Rattle.pi_top.specs.Runs.{AllWithin};
 ghost use Rattle.pi_top.specs.SessionEnds.{AnswersSessionText, AnswersSessionFile};
 ghost use Rattle.pi_top.specs.Told.{files_read, input_read, lists};
+ghost use Rattle.pi_top.specs.Took.{bounds_asked};
 
 use crate::asking::{ProgramJudged, judge_program};
 use crate::files::{FileStop, read_file};
@@ -41,7 +42,7 @@ pub fn session_of_file<F: Files, I: Source, O: Sink>(
         (λ inputs. ByWrites O.wrote O.taken out.old out.new (λ writes. 0 < asked.now.answers → queries.old ≡ [] →
         AnswersSessionFile asked.now (files_read (F.held files.new) (counted (F.faults files.old) (F.faults files.new)) reads)
         (input_read most (counted (I.faults input.old) (I.faults input.new)) inputs) (lists queries.new []) result writes))) }
-    ensures ran { AllWithin asked.now.steps queries.old → AllWithin asked.now.steps queries.new }
+    ensures ran { AllWithin (bounds_asked asked.now) queries.old → AllWithin (bounds_asked asked.now) queries.new }
 {
     let text = match read_file(alloc, files, asked.file.as_str()) {
         Ok(text) => text,
@@ -69,7 +70,7 @@ fn session_of_text<I: Source, O: Sink>(
         (λ inputs. ByWrites O.wrote O.taken out.old out.new (λ writes. 0 < asked.now.answers → queries.old ≡ [] →
         AnswersSessionText asked.now text.items (input_read most (counted (I.faults input.old) (I.faults input.new)) inputs)
         (lists queries.new []) result writes)) }
-    ensures ran { AllWithin asked.now.steps queries.old → AllWithin asked.now.steps queries.new }
+    ensures ran { AllWithin (bounds_asked asked.now) queries.old → AllWithin (bounds_asked asked.now) queries.new }
 {
     let judged = judge_program(alloc, text)?;
     match judged {

@@ -8,7 +8,8 @@ ghost use Rattle.pi_engine.specs.Seen.{machine_view, mode_of};
 ghost use Rattle.pi_top.specs.declared.query.Stop.TheVariants.{Memory};
 ghost use Rattle.pi_top.specs.PresentCode.{IsInBudget};
 ghost use Rattle.pi_top.specs.Running.{IsAtStart};
-ghost use Rattle.pi_top.specs.Runs.{no_work, run_of as run_of_ticks};
+ghost use Rattle.pi_top.specs.Runs.{no_work, run_of as run_of_what};
+ghost use Rattle.pi_top.specs.Took.{bounds_of, nothing_taken};
 
 use crate::manner::Manner;
 use crate::query::{Stop, run_of};
@@ -39,9 +40,9 @@ pub fn begin<'p, S: StateStore>(
         IsAtStart (machine_view S.seen S.order begun.machine) begun.budget manner.now.answers (program_tree core.now)
         (query_tree query)) }
     ensures counts_ticks { IfOk result (λ begun. mode_of (machine_view S.seen S.order begun.machine) ≡ Mode.Top) }
-    ensures bounded { IfOk result (λ begun. IsInBudget manner.now.steps begun.budget) }
+    ensures bounded { IfOk result (λ begun. IsInBudget (bounds_of manner.now) begun.budget) }
     ensures workless { IfOk result (λ begun. begun.budget.work ≡ no_work) }
-    ensures listed { OnOk result (queries.new ≡ queries.old ++ run_of_ticks 0 ∷ []) }
+    ensures listed { OnOk result (queries.new ≡ queries.old ++ run_of_what nothing_taken ∷ []) }
     ensures unlisted { OnErr result (queries.new ≡ queries.old) }
     ensures memory { IfErr result (λ stop. stop ≡ Memory) }
 {

@@ -16,6 +16,7 @@ ghost use Rattle.pi_top.specs.Runs.{AllWithin};
 ghost use Rattle.pi_top_words.specs.Words.{options, places_of};
 ghost use Rattle.pi_top_words.specs.declared.asked.Options.{Options};
 ghost use Rattle.pi_top.specs.Told.{files_read, input_read, lists};
+ghost use Rattle.pi_top.specs.Took.{bounds_asked};
 
 use crate::demo::demo_text;
 use crate::files::{FileStop, read_file};
@@ -119,8 +120,8 @@ fn answered<F: Files, I: Source, O: Sink>(
         AsksSession (options (map string_bytes words.now)) asked →
         AnswersSessionFile asked (files_read (F.held files.new) (counted (F.faults files.old) (F.faults files.new)) reads)
         (input_read most (counted (I.faults input.old) (I.faults input.new)) inputs) (lists queries.new []) result writes))) }
-    ensures ran { (asked : Options) → options (map string_bytes words.now) ≡ Some asked → AllWithin asked.steps queries.old →
-        AllWithin asked.steps queries.new }
+    ensures ran { (asked : Options) → options (map string_bytes words.now) ≡ Some asked → AllWithin (bounds_asked asked) queries.old →
+        AllWithin (bounds_asked asked) queries.new }
 {
     let asked = match read_words(alloc, words) {
         Ok(asked) => asked,
@@ -151,7 +152,7 @@ fn asked_of_file<F: Files, O: Sink>(
         (λ reads. ByWrites O.wrote O.taken out.old out.new (λ writes. 0 < asked.now.answers → queries.old ≡ [] →
         AnswersFile asked.now (files_read (F.held files.new) (counted (F.faults files.old) (F.faults files.new)) reads)
         (lists queries.new []) result writes)) }
-    ensures ran { AllWithin asked.now.steps queries.old → AllWithin asked.now.steps queries.new }
+    ensures ran { AllWithin (bounds_asked asked.now) queries.old → AllWithin (bounds_asked asked.now) queries.new }
 {
     let text = match read_file(alloc, files, asked.file.as_str()) {
         Ok(text) => text,
@@ -176,7 +177,7 @@ fn asked_of_demo<O: Sink>(
     ensures answers { ByWrites O.wrote O.taken out.old out.new (λ writes. 0 < asked.now.answers →
         is_some (places_of asked.now) ≡ true → queries.old ≡ [] → (files : FaultCount) → Stands files →
         AnswersMade asked.now files [] (lists queries.new []) result writes) }
-    ensures ran { AllWithin asked.now.steps queries.old → AllWithin asked.now.steps queries.new }
+    ensures ran { AllWithin (bounds_asked asked.now) queries.old → AllWithin (bounds_asked asked.now) queries.new }
 {
     let Some(places) = asked.places() else {
         return ended(out, USAGE, 2);
@@ -199,7 +200,7 @@ fn asked_of_text<O: Sink>(
     ensures no_read { IfOk result (λ status. status < 7) }
     ensures answers { ByWrites O.wrote O.taken out.old out.new (λ writes. 0 < asked.now.answers → queries.old ≡ []
         → AnswersText (manner_of asked.now) text.items (goal_of asked.now) (lists queries.new []) result writes) }
-    ensures ran { AllWithin asked.now.steps queries.old → AllWithin asked.now.steps queries.new }
+    ensures ran { AllWithin (bounds_asked asked.now) queries.old → AllWithin (bounds_asked asked.now) queries.new }
 {
     let goal = goal_of(asked);
     let judged = judge(alloc, text, goal.as_bytes())?;

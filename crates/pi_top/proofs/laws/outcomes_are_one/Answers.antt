@@ -10,8 +10,8 @@ returns c =
       endings = ending-is-one;
       refused = refused-written o;
       run = asked-run o;
-      status = λ asked text goal texts more queries runs log status other a b. (one-outcome o asked text goal texts more queries runs log status other a b).same_status;
-      queries = λ asked text goal texts more queries runs log status other a b. (one-outcome o asked text goal texts more queries runs log status other a b).same_queries;
+      status = λ asked text goal texts more queries runs log status other a b left right. (one-outcome o asked text goal texts more queries runs log status other a b left right).same_status;
+      queries = λ asked text goal texts more queries runs log status other a b left right. (one-outcome o asked text goal texts more queries runs log status other a b left right).same_queries;
       printed = λ text texts more queries runs status other a b. let is = one-printed o text queries runs status other texts more a b in (is.same_queries, is.same_status, is.same_texts);
-      texts = λ asked text goal texts more queries runs log status other a b. (one-outcome o asked text goal texts more queries runs log status other a b).same_texts;
+      texts = λ asked text goal texts more queries runs log status other a b left right. (one-outcome o asked text goal texts more queries runs log status other a b left right).same_texts;
     }

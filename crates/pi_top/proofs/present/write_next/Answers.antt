@@ -11,6 +11,7 @@ use Rattle.pi_top.specs.Stops.{status_of_stop}
 use Rattle.pi_top.proofs.QueryEndings.{comes-stopped, comes-cut, comes-end}
 use Rattle.pi_top.specs.Turn.{EndsAt, IsCutAt}
 use Rattle.pi_top.proofs.TurnRuns.{next-answer, ends-at, ends-at-limit, cut-at, cut-at-limit}
+use Rattle.pi_top.specs.Took.{bounds_in, took_in}
 use Rattle.pi_top.specs.QueryWords.{asked_query, told_query}
 use Rattle.pi_top.proofs.present.write_next.Goals as goal
 
@@ -24,7 +25,7 @@ returns-in_err-end-clause-comes g c =
     let same : p.0 ≡ c.in_err-end.field-0.0 = p.2 in
     rw (p.1, same)
     (ByWrites-so next.comes (λ writes comes. λ first program q w runnable less.
-    cut-at lines c.args.manner.now.answers c.args.given c.args.budget.now.steps after.steps program q after.ticks (status_of_stop c.in_err-end.field-0.0) (first ++ writes) next.steps less
+    cut-at lines c.args.manner.now.answers c.args.given (bounds_in c.args.budget.now) (bounds_in after) program q (took_in after) (status_of_stop c.in_err-end.field-0.0) (first ++ writes) next.rest.bounds less
     (comes lines first c.args.given program q w.so_far runnable)))
 
 -- an answer's lines
@@ -34,17 +35,17 @@ returns-in_err-write_answer-in-Answer-clause-comes g c =
     let lines = c.args.manner.now.lines in
     let n = machine_view g.S.StateStore.seen g.S.StateStore.order c.next_told.new.machine in
     let after = c.next_told.new.budget in
-    let steps = c.args.budget.now.steps in
+    let may = bounds_in c.args.budget.now in
     let stop = c.in_err-write_answer-in-Answer.field-0.0 in
     let p = err_from_is_err_and c.from_residual-in_err-write_answer-in-Answer.result c.from_residual-in_err-write_answer-in-Answer.ensures.1 in
     let same : p.0 ≡ stop = p.2 in
     rw (p.1, same)
     (ByWrites-then next.comes c.in_err-write_answer-in-Answer.ensures.told (λ before its comes told. λ first program q w runnable less.
     let it = comes lines first c.args.given program q w.so_far runnable in
-    subst (λ (all : List SinkWrite). IsCutAt (asked_query lines c.args.manner.now.answers steps program q) (c.args.given + 1) after.ticks (status_of_stop stop) all) (append_assoc first before its)
-    (cut-at lines c.args.manner.now.answers c.args.given steps steps program q after.ticks (status_of_stop stop) ((first ++ before) ++ its) refl less
-    (comes-cut lines it.before n it.budget after c.args.given steps program q c.in-Answer.answer stop (first ++ before) its
-    runnable it.so_far it.called next.steps (rw c.in-Answer.is at it.happens) told.cut))))
+    subst (λ (all : List SinkWrite). IsCutAt (asked_query lines c.args.manner.now.answers may program q) (c.args.given + 1) (took_in after) (status_of_stop stop) all) (append_assoc first before its)
+    (cut-at lines c.args.manner.now.answers c.args.given may may program q (took_in after) (status_of_stop stop) ((first ++ before) ++ its) refl less
+    (comes-cut lines it.before n it.budget after c.args.given may program q c.in-Answer.answer stop (first ++ before) its
+    runnable it.so_far it.called next.rest.bounds (rw c.in-Answer.is at it.happens) told.cut))))
 
 -- the line of an end
 pub returns-in_err-write_end-in_default-clause-comes : goal.returns-in_err-write_end-in_default-clause-comes
@@ -53,17 +54,17 @@ returns-in_err-write_end-in_default-clause-comes g c =
     let lines = c.args.manner.now.lines in
     let n = machine_view g.S.StateStore.seen g.S.StateStore.order c.next_told.new.machine in
     let after = c.next_told.new.budget in
-    let steps = c.args.budget.now.steps in
+    let may = bounds_in c.args.budget.now in
     let stop = c.in_err-write_end-in_default.field-0.0 in
     let p = err_from_is_err_and c.from_residual-in_err-write_end-in_default.result c.from_residual-in_err-write_end-in_default.ensures.1 in
     let same : p.0 ≡ stop = p.2 in
     rw (p.1, same)
     (ByWrites-then next.comes c.in_err-write_end-in_default.ensures.told (λ before its comes told. λ first program q w runnable less.
     let it = comes lines first c.args.given program q w.so_far runnable in
-    subst (λ (all : List SinkWrite). IsCutAt (asked_query lines c.args.manner.now.answers steps program q) (c.args.given + 1) after.ticks (status_of_stop stop) all) (append_assoc first before its)
-    (cut-at lines c.args.manner.now.answers c.args.given steps steps program q after.ticks (status_of_stop stop) ((first ++ before) ++ its) refl less
-    (comes-end lines it.before n it.budget after c.args.given steps program q c.in_ok-end.end _ (Err stop) (first ++ before) its
-    runnable it.so_far it.called next.steps (λ e. grind (arith, nat_tests, e)) (λ e. grind (arith, nat_tests, e)) (λ a e. c.in_default.not-Answer a e) it.no_text it.happens told))))
+    subst (λ (all : List SinkWrite). IsCutAt (asked_query lines c.args.manner.now.answers may program q) (c.args.given + 1) (took_in after) (status_of_stop stop) all) (append_assoc first before its)
+    (cut-at lines c.args.manner.now.answers c.args.given may may program q (took_in after) (status_of_stop stop) ((first ++ before) ++ its) refl less
+    (comes-end lines it.before n it.budget after c.args.given may program q c.in_ok-end.end _ (Err stop) (first ++ before) its
+    runnable it.so_far it.called next.rest.bounds (λ e. grind (arith, nat_tests, e)) (λ e. grind (arith, nat_tests, e)) (λ a e. c.in_default.not-Answer a e) it.no_text it.built it.happens told))))
 
 pub returns-in_default-clause-comes : goal.returns-in_default-clause-comes
 returns-in_default-clause-comes g c =
@@ -71,13 +72,13 @@ returns-in_default-clause-comes g c =
     let lines = c.args.manner.now.lines in
     let n = machine_view g.S.StateStore.seen g.S.StateStore.order c.next_told.new.machine in
     let after = c.next_told.new.budget in
-    let steps = c.args.budget.now.steps in
+    let may = bounds_in c.args.budget.now in
     ByWrites-then next.comes c.in_ok-write_end-in_default.ensures.told (λ before its comes told. λ first program q w runnable less.
     let it = comes lines first c.args.given program q w.so_far runnable in
-    subst (λ (all : List SinkWrite). EndsAt (asked_query lines c.args.manner.now.answers steps program q) (c.args.given + 1) after.ticks all) (append_assoc first before its)
-    (ends-at lines c.args.manner.now.answers c.args.given steps program q after.ticks c.in_ok-write_end-in_default.field-0 ((first ++ before) ++ its)
-    (comes-end lines it.before n it.budget after c.args.given steps program q c.in_ok-end.end _ (Ok c.in_ok-write_end-in_default.field-0) (first ++ before) its
-    runnable it.so_far it.called next.steps (λ e. grind (arith, nat_tests, e)) (λ e. grind (arith, nat_tests, e)) (λ a e. c.in_default.not-Answer a e) it.no_text it.happens told)))
+    subst (λ (all : List SinkWrite). EndsAt (asked_query lines c.args.manner.now.answers may program q) (c.args.given + 1) (took_in after) all) (append_assoc first before its)
+    (ends-at lines c.args.manner.now.answers c.args.given may program q (took_in after) c.in_ok-write_end-in_default.field-0 ((first ++ before) ++ its)
+    (comes-end lines it.before n it.budget after c.args.given may program q c.in_ok-end.end _ (Ok c.in_ok-write_end-in_default.field-0) (first ++ before) its
+    runnable it.so_far it.called next.rest.bounds (λ e. grind (arith, nat_tests, e)) (λ e. grind (arith, nat_tests, e)) (λ a e. c.in_default.not-Answer a e) it.no_text it.built it.happens told)))
 
 -- one answer more was written
 pub returns-then-given-last-clause-comes : goal.returns-then-given-last-clause-comes
@@ -99,7 +100,7 @@ returns-in_err-ended_behind_answers-clause-comes g c =
     let lines = c.args.manner.now.lines in
     let n = machine_view g.S.StateStore.seen g.S.StateStore.order c.next_told.new.machine in
     let after = c.next_told.new.budget in
-    let steps = c.args.budget.now.steps in
+    let may = bounds_in c.args.budget.now in
     let stop = c.in_err-ended_behind_answers.field-0.0 in
     let p = err_from_is_err_and c.from_residual-in_err-ended_behind_answers.result c.from_residual-in_err-ended_behind_answers.ensures.1 in
     let same : p.0 ≡ stop = p.2 in
@@ -111,9 +112,9 @@ returns-in_err-ended_behind_answers-clause-comes g c =
     (next-answer lines n after c.args.given program q c.in_ok-end.end c.in-Answer.answer (first ++ before) its c.in-Answer.is (comes lines first c.args.given program q w.so_far runnable) told.all)) in
     rw (p.1, same)
     (ByWrites-then written ended.told (λ earlier last so_far told. λ first program q w runnable less.
-    subst (λ (all : List SinkWrite). IsCutAt (asked_query lines c.args.manner.now.answers steps program q) (c.args.given + 1) after.ticks (status_of_stop stop) all) (append_assoc first earlier last)
-    (cut-at-limit lines c.args.manner.now.answers (c.args.given + 1) steps program q after.ticks (status_of_stop stop) ((first ++ earlier) ++ last) (omega (arith, less, c.if-given-last.false, c.saturating_sub-last.ensures))
-    (comes-stopped lines n after (c.args.given + 1) steps program q (Err stop) (first ++ earlier) last runnable (omega arith) next.steps (so_far first program q w runnable less) ended.stops
+    subst (λ (all : List SinkWrite). IsCutAt (asked_query lines c.args.manner.now.answers may program q) (c.args.given + 1) (took_in after) (status_of_stop stop) all) (append_assoc first earlier last)
+    (cut-at-limit lines c.args.manner.now.answers (c.args.given + 1) may program q (took_in after) (status_of_stop stop) ((first ++ earlier) ++ last) (omega (arith, less, c.if-given-last.false, c.saturating_sub-last.ensures))
+    (comes-stopped lines n after (c.args.given + 1) may program q (Err stop) (first ++ earlier) last runnable (omega arith) next.rest.bounds (so_far first program q w runnable less) ended.stops
     (record { line = told; its_status = tt })))))
 
 -- or written
@@ -124,7 +125,7 @@ returns-clause-comes g c =
     let lines = c.args.manner.now.lines in
     let n = machine_view g.S.StateStore.seen g.S.StateStore.order c.next_told.new.machine in
     let after = c.next_told.new.budget in
-    let steps = c.args.budget.now.steps in
+    let may = bounds_in c.args.budget.now in
     let written : ByWrites g.O.Sink.wrote g.O.Sink.taken c.args.out.now c.write_answer.new.out (λ writes. (first : List SinkWrite) (program : List PredTree) (q : QueryTree) →
     IsWritten (told_query lines program q) (machine_view g.S.StateStore.seen g.S.StateStore.order c.args.machine.now) c.args.budget.now c.args.given first → IsRunnable program q → c.args.given < c.args.manner.now.answers →
     IsWritten (told_query lines program q) n after (c.args.given + 1) (first ++ writes)) =
@@ -132,7 +133,7 @@ returns-clause-comes g c =
     subst (λ (all : List SinkWrite). IsWritten (told_query lines program q) n after (c.args.given + 1) all) (append_assoc first before its)
     (next-answer lines n after c.args.given program q c.in_ok-end.end c.in-Answer.answer (first ++ before) its c.in-Answer.is (comes lines first c.args.given program q w.so_far runnable) told.all)) in
     ByWrites-then written ended.told (λ earlier last so_far told. λ first program q w runnable less.
-    subst (λ (all : List SinkWrite). EndsAt (asked_query lines c.args.manner.now.answers steps program q) (c.args.given + 1) after.ticks all) (append_assoc first earlier last)
-    (ends-at-limit lines c.args.manner.now.answers (c.args.given + 1) steps program q after.ticks c.in_ok-ended_behind_answers.field-0 ((first ++ earlier) ++ last) (omega (arith, less, c.if-given-last.false, c.saturating_sub-last.ensures))
-    (comes-stopped lines n after (c.args.given + 1) steps program q (Ok c.in_ok-ended_behind_answers.field-0) (first ++ earlier) last runnable (omega arith) next.steps (so_far first program q w runnable less) tt
+    subst (λ (all : List SinkWrite). EndsAt (asked_query lines c.args.manner.now.answers may program q) (c.args.given + 1) (took_in after) all) (append_assoc first earlier last)
+    (ends-at-limit lines c.args.manner.now.answers (c.args.given + 1) may program q (took_in after) c.in_ok-ended_behind_answers.field-0 ((first ++ earlier) ++ last) (omega (arith, less, c.if-given-last.false, c.saturating_sub-last.ensures))
+    (comes-stopped lines n after (c.args.given + 1) may program q (Ok c.in_ok-ended_behind_answers.field-0) (first ++ earlier) last runnable (omega arith) next.rest.bounds (so_far first program q w runnable less) tt
     (record { line = told; its_status = ended.status }))))

@@ -9,14 +9,14 @@ use Rattle.pi_top.specs.Running.{IsSoFar, Called, NextComes}
 use Rattle.pi_top.proofs.HandedTexts.{hands-one, fails-one}
 use Rattle.pi_top.proofs.QueryRuns.{written-text}
 use Rattle.pi_top.proofs.QueryEndings.{text-cut, memory-cut}
+use Rattle.pi_top.proofs.Taking.{called-of, rest-none, rest-then}
 use Rattle.pi_top.specs.QueryWords.{told_query}
 use Rattle.pi_top.proofs.query.next_told.Goals as goal
 
 pub loop-turn-init : goal.loop-turn-init
 loop-turn-init g c = record {
-  steps = refl;
+  rest = rest-none _ c.args.budget.now;
   within = λ h. h;
-  work = λ top. refl;
   mode = refl;
   no_fault = refl;
   so_far = ByWrites-none g.O.Sink.wrote g.O.Sink.taken c.args.out.now _ (λ lines first given program q so_far. rw (append-nil first) so_far);
@@ -28,18 +28,17 @@ loop-turn-preserved g c =
     let next = c.in-Out.ensures in
     let m = machine_view g.S.StateStore.seen g.S.StateStore.order l.machine in
     let n = machine_view g.S.StateStore.seen g.S.StateStore.order c.next.new.self in
-    let called : Called m n l.budget c.next.new.budget = record { counts = next.counts; within = next.within; mode = next.mode } in
+    let called : Called m n l.budget c.next.new.budget = called-of m n l.budget c.next.new.budget next.counts next.within next.mode in
     record {
-      steps = next.counts.steps ∙ l.invariant.steps;
+      rest = rest-then _ _ _ _ _ l.invariant.mode l.invariant.rest called.rest;
       within = λ h. next.within (l.invariant.within h);
-      work = λ top. next.counts.top (l.invariant.mode ∙ top) ∙ l.invariant.work top;
       mode = next.mode ∙ l.invariant.mode;
       no_fault = c.in_ok-write_text-in-Out.ensures.no_fault ∙ l.invariant.no_fault;
       so_far = ByWrites-then l.invariant.so_far (rw c.as_str.ensures at c.in_ok-write_text-in-Out.ensures.hands) (λ before its earlier handed. λ lines first given program q start.
           let w = earlier lines first given program q start in
           subst (IsSoFar (told_query lines program q) n c.next.new.budget given) (append_assoc first before its)
           (written-text lines m n l.budget c.next.new.budget given program q c.in-Out.text (first ++ before) its
-          w called (next.ticks w.running (query_view []) program q w.events w.runs) next.lasts (hands-one c.in-Out.text its handed)));
+          w called (next.steps w.running (query_view []) program q w.events w.runs) next.lasts (hands-one c.in-Out.text its handed)));
     }
 
 pub returns-in_err-write_text-in-Out-clause-comes : goal.returns-in_err-write_text-in-Out-clause-comes
@@ -48,7 +47,7 @@ returns-in_err-write_text-in-Out-clause-comes g c =
     let next = c.in-Out.ensures in
     let m = machine_view g.S.StateStore.seen g.S.StateStore.order l.machine in
     let n = machine_view g.S.StateStore.seen g.S.StateStore.order c.next.new.self in
-    let called : Called m n l.budget c.next.new.budget = record { counts = next.counts; within = next.within; mode = next.mode } in
+    let called : Called m n l.budget c.next.new.budget = called-of m n l.budget c.next.new.budget next.counts next.within next.mode in
     let p = err_from_is_err_and c.from_residual.result c.from_residual.ensures.1 in
     let write : p.0 ≡ Write = p.2 in
     rw (p.1, write)
@@ -56,7 +55,7 @@ returns-in_err-write_text-in-Out-clause-comes g c =
     let w = earlier lines first given program q start in
     subst (NextComes (told_query lines program q) given n c.next.new.budget (Err Write)) (append_assoc first before its)
     (text-cut lines m n l.budget c.next.new.budget given program q c.in-Out.text (first ++ before) its
-    runnable w called (next.ticks w.running (query_view []) program q w.events w.runs) (fails-one c.in-Out.text its fails))))
+    runnable w called (next.steps w.running (query_view []) program q w.events w.runs) (fails-one c.in-Out.text its fails))))
 
 pub returns-in_default : goal.returns-in_default
 returns-in_default g c =
@@ -64,20 +63,21 @@ returns-in_default g c =
     let next = c.next.ensures in
     let m = machine_view g.S.StateStore.seen g.S.StateStore.order l.machine in
     let n = machine_view g.S.StateStore.seen g.S.StateStore.order c.next.new.self in
+    let called : Called m n l.budget c.next.new.budget = called-of m n l.budget c.next.new.budget next.counts next.within next.mode in
     record {
       writes = record { no_fault = l.invariant.no_fault; write = tt; memory = tt; never_falls = omega (arith, l.invariant.no_fault) };
       within = λ h. next.within (l.invariant.within h);
-      steps = next.counts.steps ∙ l.invariant.steps;
+      rest = rest-then _ _ _ _ _ l.invariant.mode l.invariant.rest called.rest;
       mode = next.mode ∙ l.invariant.mode;
-      work = λ top. next.counts.top (l.invariant.mode ∙ top) ∙ l.invariant.work top;
       comes = ByWrites-so l.invariant.so_far (λ writes earlier. λ lines first given program q start runnable.
           let w = earlier lines first given program q start in
           record {
             before = m;
             budget = l.budget;
             so_far = w;
-            called = record { counts = next.counts; within = next.within; mode = next.mode };
-            happens = next.ticks w.running (query_view []) program q w.events w.runs;
+            called = called;
+            happens = next.steps w.running (query_view []) program q w.events w.runs;
+            built = next.built;
             no_text = λ text e. c.in_default.not-Out text e;
             lasts = next.lasts;
           });

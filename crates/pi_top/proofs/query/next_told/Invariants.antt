@@ -1,19 +1,18 @@
 use Rattle.std.proofs.Common.{◌≡◌, ℕ, List, ◌++◌}
 use Rattle.pi_core.specs.CoreTree.{PredTree, QueryTree}
-use Rattle.pi_meaning.specs.declared.happening.Mode.{Mode}
 use Rattle.pi_meaning.specs.Machine.Budget.{IsWithin}
 use Rattle.pi_engine.specs.Seen.{machine_view, mode_of}
 use Rattle.pi_outside.specs.Writes.{ByWrites, SinkWrite}
 use Rattle.pi_top.specs.declared.manner.Lines.{Lines}
 use Rattle.pi_top.specs.Running.{IsSoFar}
 use Rattle.pi_top.specs.QueryWords.{told_query}
+use Rattle.pi_top.specs.Took.{KeepsRest}
 use Rattle.pi_top.proofs.query.next_told.Given as goal
 
 abbrev pub invariant-loop-turn : goal.invariant-loop-turn
 invariant-loop-turn g l = record {
-  steps : l.budget.steps ≡ l.initial.budget.steps;
+  rest : KeepsRest (mode_of (machine_view g.S.StateStore.seen g.S.StateStore.order l.initial.machine)) l.initial.budget l.budget;
   within : IsWithin l.initial.budget → IsWithin l.budget;
-  work : mode_of (machine_view g.S.StateStore.seen g.S.StateStore.order l.initial.machine) ≡ Mode.Top → l.budget.work ≡ l.initial.budget.work;
   mode : mode_of (machine_view g.S.StateStore.seen g.S.StateStore.order l.machine) ≡ mode_of (machine_view g.S.StateStore.seen g.S.StateStore.order l.initial.machine);
   no_fault : g.O.Sink.faults l.out ≡ g.O.Sink.faults l.initial.out;
   so_far : ByWrites g.O.Sink.wrote g.O.Sink.taken l.initial.out l.out (λ writes. (lines : Lines) (first : List SinkWrite) (given : ℕ) (program : List PredTree) (q : QueryTree) →

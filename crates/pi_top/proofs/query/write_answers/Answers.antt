@@ -9,14 +9,15 @@ use Rattle.pi_top.specs.Stops.{status_of_stop}
 use Rattle.pi_top.specs.Running.{QueryIsCut, IsAtStart, IsWritten, NextComes}
 use Rattle.pi_top.proofs.QueryRuns.{written-start, written-answer}
 use Rattle.pi_top.proofs.QueryEndings.{cut-with, comes-with, comes-stopped, comes-cut, comes-end}
+use Rattle.pi_top.proofs.Taking.{rest-none, rest-then}
+use Rattle.pi_top.specs.Took.{Bounds, bounds_in, took_in}
 use Rattle.pi_top.specs.QueryWords.{asked_query, told_query}
 use Rattle.pi_top.proofs.query.write_answers.Goals as goal
 
 pub loop-given-init : goal.loop-given-init
 loop-given-init g c = record {
-  steps = refl;
+  rest = rest-none _ c.args.budget.now;
   within = λ h. h;
-  work = λ top. refl;
   mode = refl;
   no_fault = refl;
   so_far = ByWrites-none g.O.Sink.wrote g.O.Sink.taken c.args.out.now _
@@ -32,8 +33,8 @@ returns-in_err-end-clause-comes g c =
     let same : p.0 ≡ c.in_err-end.field-0.0 = p.2 in
     rw (p.1, same)
     (ByWrites-then l.invariant.so_far next.comes (λ first second so_far comes. λ program q is.
-    subst (λ (steps : ℕ). QueryIsCut (asked_query c.args.manner.now.lines c.args.manner.now.answers steps program q) c.next_told.new.budget.ticks (status_of_stop c.in_err-end.field-0.0) (first ++ second)) (next.steps ∙ l.invariant.steps)
-    (cut-with c.args.manner.now.lines c.args.manner.now.answers l.given c.next_told.new.budget.steps program q c.next_told.new.budget.ticks (status_of_stop c.in_err-end.field-0.0) (first ++ second) c.loop-given-test.true
+    subst (λ (may : Bounds). QueryIsCut (asked_query c.args.manner.now.lines c.args.manner.now.answers may program q) (took_in c.next_told.new.budget) (status_of_stop c.in_err-end.field-0.0) (first ++ second)) (next.rest.bounds ∙ l.invariant.rest.bounds)
+    (cut-with c.args.manner.now.lines c.args.manner.now.answers l.given (bounds_in c.next_told.new.budget) program q (took_in c.next_told.new.budget) (status_of_stop c.in_err-end.field-0.0) (first ++ second) c.loop-given-test.true
     (comes c.args.manner.now.lines first l.given program q (so_far program q is).so_far is.runnable))))
 
 pub returns-in_err-write_answer-in-Answer-clause-comes : goal.returns-in_err-write_answer-in-Answer-clause-comes
@@ -51,9 +52,9 @@ returns-in_err-write_answer-in-Answer-clause-comes g c =
     rw (p.1, same)
     (ByWrites-then asked c.in_err-write_answer-in-Answer.ensures.told (λ first second comes told. λ program q is.
     let it = comes program q is in
-    cut-with c.args.manner.now.lines c.args.manner.now.answers l.given c.args.budget.now.steps program q c.next_told.new.budget.ticks (status_of_stop c.in_err-write_answer-in-Answer.field-0.0) (first ++ second) c.loop-given-test.true
-    (comes-cut c.args.manner.now.lines it.before n it.budget c.next_told.new.budget l.given c.args.budget.now.steps program q c.in-Answer.answer c.in_err-write_answer-in-Answer.field-0.0 first second
-    is.runnable it.so_far it.called (next.steps ∙ l.invariant.steps) (rw c.in-Answer.is at it.happens) told.cut)))
+    cut-with c.args.manner.now.lines c.args.manner.now.answers l.given (bounds_in c.args.budget.now) program q (took_in c.next_told.new.budget) (status_of_stop c.in_err-write_answer-in-Answer.field-0.0) (first ++ second) c.loop-given-test.true
+    (comes-cut c.args.manner.now.lines it.before n it.budget c.next_told.new.budget l.given (bounds_in c.args.budget.now) program q c.in-Answer.answer c.in_err-write_answer-in-Answer.field-0.0 first second
+    is.runnable it.so_far it.called (next.rest.bounds ∙ l.invariant.rest.bounds) (rw c.in-Answer.is at it.happens) told.cut)))
 
 pub returns-in_default : goal.returns-in_default
 returns-in_default g c =
@@ -69,14 +70,13 @@ returns-in_default g c =
       writes = rw (← l.invariant.no_fault, ← next.writes.no_fault) c.write_end.ensures.writes;
       status = c.write_end.ensures.status;
       within = λ h. next.within (l.invariant.within h);
-      steps = next.steps ∙ l.invariant.steps;
-      work = λ top. next.work (l.invariant.mode ∙ top) ∙ l.invariant.work top;
+      rest = rest-then _ _ _ _ _ l.invariant.mode l.invariant.rest next.rest;
       comes = ByWrites-then asked c.write_end.ensures.told (λ first second comes told. λ program q is.
           let it = comes program q is in
-          comes-with c.args.manner.now.lines c.args.manner.now.answers l.given c.args.budget.now.steps program q c.next_told.new.budget.ticks c.write_end.result (first ++ second) c.loop-given-test.true
-          (comes-end c.args.manner.now.lines it.before n it.budget c.next_told.new.budget l.given c.args.budget.now.steps program q c.in_ok-end.end _ c.write_end.result first second
-          is.runnable it.so_far it.called (next.steps ∙ l.invariant.steps)
-          (λ e. grind (arith, nat_tests, e)) (λ e. grind (arith, nat_tests, e)) (λ a e. c.in_default.not-Answer a e) it.no_text it.happens told));
+          comes-with c.args.manner.now.lines c.args.manner.now.answers l.given (bounds_in c.args.budget.now) program q (took_in c.next_told.new.budget) c.write_end.result (first ++ second) c.loop-given-test.true
+          (comes-end c.args.manner.now.lines it.before n it.budget c.next_told.new.budget l.given (bounds_in c.args.budget.now) program q c.in_ok-end.end _ c.write_end.result first second
+          is.runnable it.so_far it.called (next.rest.bounds ∙ l.invariant.rest.bounds)
+          (λ e. grind (arith, nat_tests, e)) (λ e. grind (arith, nat_tests, e)) (λ a e. c.in_default.not-Answer a e) it.no_text it.built it.happens told));
     }
 
 pub loop-given-preserved : goal.loop-given-preserved
@@ -90,9 +90,8 @@ loop-given-preserved g c =
     ByWrites-then l.invariant.so_far next.comes (λ first second so_far comes. λ program q is.
     comes c.args.manner.now.lines first l.given program q (so_far program q is).so_far is.runnable) in
     record {
-      steps = next.steps ∙ l.invariant.steps;
+      rest = rest-then _ _ _ _ _ l.invariant.mode l.invariant.rest next.rest;
       within = λ h. next.within (l.invariant.within h);
-      work = λ top. next.work (l.invariant.mode ∙ top) ∙ l.invariant.work top;
       mode = next.mode ∙ l.invariant.mode;
       no_fault = c.in_ok-write_answer-in-Answer.ensures.writes.no_fault ∙ (next.writes.no_fault ∙ l.invariant.no_fault);
       so_far = ByWrites-then asked c.in_ok-write_answer-in-Answer.ensures.told (λ first second comes told. λ program q is.
@@ -108,5 +107,5 @@ returns-clause-comes g c =
     let all : l.given ≡ c.args.manner.now.answers = omega (arith, c.loop-given-test.false, l.auto.given-end) in
     ByWrites-then l.invariant.so_far c.ended_behind_answers.ensures.told (λ first second so_far told. λ program q is.
     let w : IsWritten (told_query c.args.manner.now.lines program q) m l.budget c.args.manner.now.answers first = subst (λ given. IsWritten (told_query c.args.manner.now.lines program q) m l.budget given first) all (so_far program q is) in
-    comes-stopped c.args.manner.now.lines m l.budget c.args.manner.now.answers c.args.budget.now.steps program q c.ended_behind_answers.result first second is.runnable is.asked l.invariant.steps w c.ended_behind_answers.ensures.stops
+    comes-stopped c.args.manner.now.lines m l.budget c.args.manner.now.answers (bounds_in c.args.budget.now) program q c.ended_behind_answers.result first second is.runnable is.asked l.invariant.rest.bounds w c.ended_behind_answers.ensures.stops
     (record { line = told; its_status = c.ended_behind_answers.ensures.status }))

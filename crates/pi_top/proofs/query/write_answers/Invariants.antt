@@ -1,18 +1,17 @@
 use Rattle.std.proofs.Common.{◌≡◌, List}
 use Rattle.pi_core.specs.CoreTree.{PredTree, QueryTree}
-use Rattle.pi_meaning.specs.declared.happening.Mode.{Mode}
 use Rattle.pi_meaning.specs.Machine.Budget.{IsWithin}
 use Rattle.pi_engine.specs.Seen.{machine_view, mode_of}
 use Rattle.pi_outside.specs.Writes.{ByWrites}
 use Rattle.pi_top.specs.Running.{IsAtStart, IsWritten}
 use Rattle.pi_top.specs.QueryWords.{told_query}
+use Rattle.pi_top.specs.Took.{KeepsRest}
 use Rattle.pi_top.proofs.query.write_answers.Given as goal
 
 abbrev pub invariant-loop-given : goal.invariant-loop-given
 invariant-loop-given g l = record {
-  steps : l.budget.steps ≡ l.initial.budget.steps;
+  rest : KeepsRest (mode_of (machine_view g.S.StateStore.seen g.S.StateStore.order l.initial.machine)) l.initial.budget l.budget;
   within : IsWithin l.initial.budget → IsWithin l.budget;
-  work : mode_of (machine_view g.S.StateStore.seen g.S.StateStore.order l.initial.machine) ≡ Mode.Top → l.budget.work ≡ l.initial.budget.work;
   mode : mode_of (machine_view g.S.StateStore.seen g.S.StateStore.order l.machine) ≡ mode_of (machine_view g.S.StateStore.seen g.S.StateStore.order l.initial.machine);
   no_fault : g.O.Sink.faults l.out ≡ g.O.Sink.faults l.initial.out;
   so_far : ByWrites g.O.Sink.wrote g.O.Sink.taken l.initial.out l.out (λ writes. (program : List PredTree) (q : QueryTree) →

@@ -9,6 +9,7 @@ use Rattle.pi_top.specs.declared.manner.Manner.{Manner}
 use Rattle.pi_top.specs.declared.query.Stop.TheVariants.{Memory}
 use Rattle.pi_top.specs.Faults.{counted}
 use Rattle.pi_top.specs.Runs.{AllWithin}
+use Rattle.pi_top.specs.Took.{Bounds, bounds_of, bounds_asked}
 use Rattle.pi_top.specs.Writing.{Writes}
 use Rattle.pi_top.specs.Asking.{IsUnready}
 use Rattle.pi_top.specs.AskingCode.{IsReadied}
@@ -47,5 +48,5 @@ returns-in-Ready-clause-answers g c =
 
 pub returns-in-Ready-clause-ran : goal.returns-in-Ready-clause-ran
 returns-in-Ready-clause-ran g c =
-    let same : c.as_asked.result.steps ≡ c.args.asked.now.steps = ap (λ (m : Manner). m.steps) c.as_asked.ensures in
-    λ all. subst (λ steps. AllWithin steps c.serve_all.new.queries) same (c.serve_all.ensures.ran (subst (λ steps. AllWithin steps c.args.queries.now) (sym same) all))
+    let same : bounds_of c.as_asked.result ≡ bounds_asked c.args.asked.now = ap (λ (m : Manner). bounds_of m) c.as_asked.ensures in
+    λ all. subst (λ (may : Bounds). AllWithin may c.serve_all.new.queries) same (c.serve_all.ensures.ran (subst (λ (may : Bounds). AllWithin may c.args.queries.now) (sym same) all))

@@ -16,7 +16,7 @@ returns-clause-starts g c = λ empty runnable some. record {
 }
 
 pub returns-clause-bounded : goal.returns-clause-bounded
-returns-clause-bounded g c = record { within = record { ticks = omega arith; work = search rules }; its_steps = refl }
+returns-clause-bounded g c = record { within = record { ticks = omega arith; work = search rules }; its_bounds = refl }
 
 pub returns-clause-listed : goal.returns-clause-listed
 returns-clause-listed g c = c.in-Ok-push.ensures.ok ∙ ap (λ (r : QueryRun). c.args.queries.now ++ r ∷ []) c.run_of.ensures

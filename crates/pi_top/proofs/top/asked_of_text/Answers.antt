@@ -9,9 +9,10 @@ use Rattle.pi_top.specs.Manner.{goal_of, manner_of}
 use Rattle.pi_top.specs.JudgedCode.{IsAsked}
 use Rattle.pi_top.specs.Judged.{Refused}
 use Rattle.pi_top.specs.Runs.{AllWithin}
+use Rattle.pi_top.specs.Took.{Bounds, bounds_of, bounds_asked}
 use Rattle.pi_top.specs.Writing.{Writes}
 use Rattle.pi_top.proofs.Endings.{text-nothing, text-ran, text-refused}
-use Rattle.pi_top.proofs.Manners.{manner-answers, manner-steps}
+use Rattle.pi_top.proofs.Manners.{manner-answers, manner-bounds}
 use Rattle.pi_top.proofs.Runnable.{asked-runnable}
 use Rattle.pi_top.proofs.top.asked_of_text.Goals as goal
 
@@ -47,5 +48,5 @@ returns-in-Asks-clause-answers g c =
 
 pub returns-in-Asks-clause-ran : goal.returns-in-Asks-clause-ran
 returns-in-Asks-clause-ran g c =
-    let same : c.of-manner.result.steps ≡ c.args.asked.now.steps = ap (λ (m : Manner). m.steps) c.of-manner.ensures ∙ manner-steps c.args.asked.now in
-    λ all. subst (λ steps. AllWithin steps c.run_query.new.queries) same (c.run_query.ensures.ran (subst (λ steps. AllWithin steps c.args.queries.now) (sym same) all))
+    let same : bounds_of c.of-manner.result ≡ bounds_asked c.args.asked.now = ap (λ (m : Manner). bounds_of m) c.of-manner.ensures ∙ manner-bounds c.args.asked.now in
+    λ all. subst (λ (may : Bounds). AllWithin may c.run_query.new.queries) same (c.run_query.ensures.ran (subst (λ (may : Bounds). AllWithin may c.args.queries.now) (sym same) all))

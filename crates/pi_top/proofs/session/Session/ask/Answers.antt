@@ -8,6 +8,7 @@ use Rattle.pi_outside.specs.Requests.{a_goal}
 use Rattle.pi_top.specs.declared.query.Stop.TheVariants.{Memory, Write}
 use Rattle.pi_top.specs.Handing.{Hands, Fails}
 use Rattle.pi_top.specs.Runs.{run_of}
+use Rattle.pi_top.specs.Took.{bounds_of, nothing_taken}
 use Rattle.pi_top.proofs.RunLists.{AllWithin-push}
 use Rattle.pi_top.proofs.Runnable.{lowered-runnable}
 use Rattle.pi_top.specs.Asking.{RefusesOf}
@@ -62,16 +63,16 @@ returns-in_ok-begun-in-Asks-clause-comes g c =
     ByWrites-so c.answer.ensures.comes (λ writes comes. λ query may some.
     let is : IsAskedOf program core c.args.text.now q = rw c.in-Asks.is at (c.in_ok-judged.ensures may) in
     goal-served _ _ session.manner program core q query c.args.text.now c.answer.result old c.answer.new.queries writes is
-    (comes [] core q old (run_of 0) begun.listed (can-start session.manner _ _ core q (begun.starts c.new-store.ensures (lowered-runnable program is.goal core q is.lowered) some) begun.bounded.its_steps)))
+    (comes [] core q old (run_of nothing_taken) begun.listed (can-start session.manner _ _ core q (begun.starts c.new-store.ensures (lowered-runnable program is.goal core q is.lowered) some) begun.bounded.its_bounds)))
 
 pub returns-in_err-begun-in-Asks-clause-ran : goal.returns-in_err-begun-in-Asks-clause-ran
 returns-in_err-begun-in-Asks-clause-ran g c = λ all. rw c.in_err-begun-in-Asks.ensures.unlisted all
 
 pub returns-in_ok-begun-in-Asks-clause-ran : goal.returns-in_ok-begun-in-Asks-clause-ran
 returns-in_ok-begun-in-Asks-clause-ran g c =
-    let steps = c.args.self.now.manner.steps in
+    let may = bounds_of c.args.self.now.manner in
     let begun = c.in_ok-begun-in-Asks.ensures in
-    λ all. c.answer.ensures.ran begun.bounded (rw begun.listed (AllWithin-push steps c.args.queries.now (run_of 0) (omega arith) all))
+    λ all. c.answer.ensures.ran begun.bounded (rw begun.listed (AllWithin-push may c.args.queries.now (run_of nothing_taken) (record { ticks = omega arith; work = omega arith }) all))
 
 pub returns-in_ok-begun-in-Asks-clause-bounded : goal.returns-in_ok-begun-in-Asks-clause-bounded
 returns-in_ok-begun-in-Asks-clause-bounded g c = c.answer.ensures.bounded c.in_ok-begun-in-Asks.ensures.bounded
