@@ -14,3 +14,6 @@ pub mod LanguageLemmas
 pub mod StageLemmas
 pub mod LanguageExamples
 pub mod StageExamples
+pub mod CutResumed
+pub mod LongPaths
+pub mod MoreLemmas

@@ -1,0 +1,13 @@
+use Rattle.pi_resume_spec.proofs.laws.runs.runs_with_paths_are_one.Goals as goal
+
+pub returns-clause-run : goal.returns-clause-run
+returns-clause-run c = ?
+
+pub returns-clause-deeper : goal.returns-clause-deeper
+returns-clause-deeper c = ?
+
+pub returns-clause-resumed : goal.returns-clause-resumed
+returns-clause-resumed c = ?
+
+pub returns-clause-resumed_deeper : goal.returns-clause-resumed_deeper
+returns-clause-resumed_deeper c = ?
