@@ -17,3 +17,8 @@ pub mod StageExamples
 pub mod CutResumed
 pub mod LongPaths
 pub mod MoreLemmas
+pub mod MoreGoals
+pub mod FunctionsMore
+pub mod MoreRules
+pub mod MoreNames
+pub mod PathRunLemmas

@@ -73,7 +73,7 @@ search-below s t h = record { ways = ways-below s.ways t.ways h.ways; follows = 
 pub search-by : {A : Type 0} (s t : Search A) → SearchBelow s t → SearchBy Same s t
 search-by s t h = record { ways = ways-by s.ways t.ways h.ways; follows = λ p. follows-by (s.follows p) (t.follows p) (h.follows p) }
 
-follows-itself : {A : Type 0} (f : Following A) → FollowsBelow f f
+pub follows-itself : {A : Type 0} (f : Following A) → FollowsBelow f f
 follows-itself (on_way p f) = same_way p (follows-itself f)
 follows-itself (reached made x left later) = same_reached made x left (Rattle.pi_traces.proofs.BelowLemmas.below-refl later)
 follows-itself (cut_off e) = same_cut e
@@ -171,7 +171,7 @@ with-rest R made t u _ _ b (cut_by e) = cut_by e
 with-rest R made t u _ _ b bad_by = bad_by
 
 -- searches after answers that stand in a relation
-pub SearchesBy : {A B C D : Type 0} → (A → B → Type 0) → (C → D → Type 0) → (A → Search C) → (B → Search D) → Type 0
+unfoldable pub SearchesBy : {A B C D : Type 0} → (A → B → Type 0) → (C → D → Type 0) → (A → Search C) → (B → Search D) → Type 0
 SearchesBy {A = A} {B = B} R S f g = (x : A) (y : B) → R x y → SearchBy S (f x) (g y)
 
 ways-after : {A B C D : Type 0} (R : A → B → Type 0) (S : C → D → Type 0) (f : A → Search C) (g : B → Search D) → SearchesBy R S f g → AfterBy R S (λ x. (f x).ways) (λ y. (g y).ways)
@@ -240,7 +240,7 @@ alternatives-by R ss ts h = record { ways = choice-by R 1 ss ts h; follows = λ 
 -- ---- a `catch`
 
 -- what follows exceptions
-pub HandlersBy : {A B : Type 0} → (A → B → Type 0) → (Tree → Search A) → (Tree → Search B) → Type 0
+unfoldable pub HandlersBy : {A B : Type 0} → (A → B → Type 0) → (Tree → Search A) → (Tree → Search B) → Type 0
 HandlersBy R f g = (ball : Tree) → SearchBy R (f ball) (g ball)
 
 to-exception : {A B C D : Type 0} (Q : C → D → Type 0) (R : A → B → Type 0) (t : Trace C) (u : Trace D) (f : Tree → Following A) (g : Tree → Following B) → BelowBy Q t u → ((ball : Tree) → FollowsBy R (f ball) (g ball)) →
