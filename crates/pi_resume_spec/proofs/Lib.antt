@@ -14,3 +14,11 @@ pub mod LanguageLemmas
 pub mod StageLemmas
 pub mod LanguageExamples
 pub mod StageExamples
+pub mod CutResumed
+pub mod LongPaths
+pub mod MoreLemmas
+pub mod MoreGoals
+pub mod FunctionsMore
+pub mod MoreRules
+pub mod MoreNames
+pub mod PathRunLemmas

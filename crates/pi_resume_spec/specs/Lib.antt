@@ -10,3 +10,9 @@ pub mod LanguageLaws
 pub mod Label
 pub mod Drain
 pub mod StageLaws
+pub mod Longest
+pub mod ResumedCut
+pub mod PathRuns
+pub mod ResumedWork
+pub mod More
+pub mod RunLaws
