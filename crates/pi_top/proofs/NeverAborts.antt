@@ -104,6 +104,7 @@ catching-safe act handler ball keeps handles p safe =
 
 mutual
   unfolding meaning meaning_of_all meaning_of_any KeepsSafe NoAbort
+
   meaning-safe : (b : Builtins) → BuiltinsSafe b → (g : GoalTree) → KeepsSafe (meaning b g)
   meaning-safe b names truth = draining-safe (λ p. one p) one-safe
   meaning-safe b names fail = draining-safe (λ p. done) (λ p safe. tt)

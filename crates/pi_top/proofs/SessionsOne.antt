@@ -69,13 +69,13 @@ one-run program goal log steps run other part its a b =
     names-runs-are-one (query_view log) no_stages no-stages-add program goal steps run other (a.is_run no_stages (inr refl)) (b.is_run no_stages (inr refl))
 
 -- what two turns of one query have in common
-record AreSame (took others : Took) (writes more : List SinkWrite) : Type 0 where
-  pub same_ticks : took.ticks ≡ others.ticks
+record AreSame (taken others : Took) (writes more : List SinkWrite) : Type 0 where
+  pub same_ticks : taken.ticks ≡ others.ticks
   pub same_bytes : taken_by writes ≡ taken_by more
 
-so-far-one : (manner : Manner) (program : ProgramTree) (goal : ExpTree) (log : List LogEntry) (requests : ℕ) (took others : Took) (writes more : List SinkWrite) → QuerySoFar manner program goal log requests took writes →
-    QuerySoFar manner program goal log requests others more → AreSame took others writes more
-so-far-one manner program goal log requests took others writes more a b =
+so-far-one : (manner : Manner) (program : ProgramTree) (goal : ExpTree) (log : List LogEntry) (requests : ℕ) (taken others : Took) (writes more : List SinkWrite) → QuerySoFar manner program goal log requests taken writes →
+    QuerySoFar manner program goal log requests others more → AreSame taken others writes more
+so-far-one manner program goal log requests taken others writes more a b =
     let run : a.run ≡ b.run = one-run program goal log manner.steps a.run b.run a.part b.part a.is_part b.is_part in
     let begins : IsPrefix b.part a.run.events = rw (← run) at b.is_part.begins in
     let part : a.part ≡ b.part = one-last requests a.part b.part a.run.events a.is_part.begins begins a.last b.last in
@@ -84,20 +84,20 @@ so-far-one manner program goal log requests took others writes more a b =
       same_bytes = same-handed (print manner.lines a.part) (print manner.lines b.part) writes more (ap (print manner.lines) part) a.written b.written;
     }
 
-ended-one : (manner : Manner) (program : ProgramTree) (goal : ExpTree) (log : List LogEntry) (requests : ℕ) (took others : Took) (writes more : List SinkWrite) → took.runs < manner.work → others.runs < manner.work →
-    QueryEnded manner program goal log requests took writes → QueryEnded manner program goal log requests others more → AreSame took others writes more
-ended-one manner program goal log requests took others writes more left right x y =
+ended-one : (manner : Manner) (program : ProgramTree) (goal : ExpTree) (log : List LogEntry) (requests : ℕ) (taken others : Took) (writes more : List SinkWrite) → taken.runs < manner.work → others.runs < manner.work →
+    QueryEnded manner program goal log requests taken writes → QueryEnded manner program goal log requests others more → AreSame taken others writes more
+ended-one manner program goal log requests taken others writes more left right x y =
     let a = x.headline in
     let b = y.headline in
     let run : a.run ≡ b.run = one-run program goal log manner.steps a.run b.run a.part b.part a.is_part b.is_part in
     let begins : IsPrefix b.part a.run.events = rw (← run) at b.is_part.begins in
     let ends : Ends requests b.part a.run b.ending = rw (← run) at b.ends in
     let part : a.part ≡ b.part =
-    one-part requests a.part b.part a.run a.is_part.begins begins (stands requests a.part a.run a.ending (never-spent manner.work a.ending took a.part left a.takes) a.ends)
+    one-part requests a.part b.part a.run a.is_part.begins begins (stands requests a.part a.run a.ending (never-spent manner.work a.ending taken a.part left a.takes) a.ends)
     (stands requests b.part a.run b.ending (never-spent manner.work b.ending others b.part right b.takes) ends) in
     let ending : a.ending ≡ b.ending = ending-is-one requests a.part a.run a.ending b.ending a.ends (subst (λ p. Ends requests p a.run b.ending) (sym part) ends) in
     record {
-      same_ticks = its-ticks manner.work a.ending took a.part a.takes ∙ ap count_ticks part ∙ sym (its-ticks manner.work b.ending others b.part b.takes);
+      same_ticks = its-ticks manner.work a.ending taken a.part a.takes ∙ ap count_ticks part ∙ sym (its-ticks manner.work b.ending others b.part b.takes);
       same_bytes = same-handed x.texts y.texts writes more
           (a.written ∙ ap (λ p. print manner.lines p ++ end_lines manner.lines a.ending) part ∙ ap (λ e. print manner.lines b.part ++ end_lines manner.lines e) ending ∙ sym b.written) x.written y.written;
     }
@@ -112,9 +112,9 @@ no-end-yet answers requests part other run StepsSpent fewer begins last limit le
 no-end-yet answers requests part other run WorkSpent fewer begins last limit left is = absurd (left refl)
 
 -- a query that goes on hasn't ended
-so-far-no-end : {X : Type 0} (manner : Manner) (program : ProgramTree) (goal : ExpTree) (log : List LogEntry) (requests : ℕ) (took others : Took) (writes more : List SinkWrite) → others.runs < manner.work →
-    QuerySoFar manner program goal log requests took writes → QueryEnded manner program goal log requests others more → X
-so-far-no-end manner program goal log requests took others writes more left a y =
+so-far-no-end : {X : Type 0} (manner : Manner) (program : ProgramTree) (goal : ExpTree) (log : List LogEntry) (requests : ℕ) (taken others : Took) (writes more : List SinkWrite) → others.runs < manner.work →
+    QuerySoFar manner program goal log requests taken writes → QueryEnded manner program goal log requests others more → X
+so-far-no-end manner program goal log requests taken others writes more left a y =
     let b = y.headline in
     let run : a.run ≡ b.run = one-run program goal log manner.steps a.run b.run a.part b.part a.is_part b.is_part in
     no-end-yet manner.answers requests a.part b.part a.run b.ending a.fewer a.is_part.begins a.last y.at_limit (never-spent manner.work b.ending others b.part left b.takes) (rw (← run) at b.ends)
@@ -129,17 +129,17 @@ same-runs : (runs more : List QueryRun) → runs ≡ more → SameRuns runs more
 unfolding SameRuns
 same-runs runs more same = ap (map but_for_runs) same
 
-same-pushed : (runs more : List QueryRun) (took others : Took) → SameRuns runs more → took.ticks ≡ others.ticks → SameRuns (runs ++ run_of took ∷ []) (more ++ run_of others ∷ [])
+same-pushed : (runs more : List QueryRun) (taken others : Took) → SameRuns runs more → taken.ticks ≡ others.ticks → SameRuns (runs ++ run_of taken ∷ []) (more ++ run_of others ∷ [])
 unfolding SameRuns
-same-pushed runs more took others front same =
-    map-append but_for_runs runs (run_of took ∷ []) ∙ ap (λ (l : List QueryRun). l ++ but_for_runs (run_of took) ∷ []) front
-    ∙ ap (λ (x : QueryRun). map but_for_runs more ++ x ∷ []) (by-ticks took others same) ∙ sym (map-append but_for_runs more (run_of others ∷ []))
+same-pushed runs more taken others front same =
+    map-append but_for_runs runs (run_of taken ∷ []) ∙ ap (λ (l : List QueryRun). l ++ but_for_runs (run_of taken) ∷ []) front
+    ∙ ap (λ (x : QueryRun). map but_for_runs more ++ x ∷ []) (by-ticks taken others same) ∙ sym (map-append but_for_runs more (run_of others ∷ []))
 
-same-front : (runs more : List QueryRun) (took others : Took) → SameRuns (runs ++ run_of took ∷ []) (more ++ run_of others ∷ []) → SameRuns runs more
+same-front : (runs more : List QueryRun) (taken others : Took) → SameRuns (runs ++ run_of taken ∷ []) (more ++ run_of others ∷ []) → SameRuns runs more
 unfolding SameRuns
-same-front runs more took others same =
-    (same_from_push (map but_for_runs runs) (map but_for_runs more) (but_for_runs (run_of took)) (but_for_runs (run_of others))
-    (sym (map-append but_for_runs runs (run_of took ∷ [])) ∙ same ∙ map-append but_for_runs more (run_of others ∷ []))).0
+same-front runs more taken others same =
+    (same_from_push (map but_for_runs runs) (map but_for_runs more) (but_for_runs (run_of taken)) (but_for_runs (run_of others))
+    (sym (map-append but_for_runs runs (run_of taken ∷ [])) ∙ same ∙ map-append but_for_runs more (run_of others ∷ []))).0
 
 -- no run's work reached what it may do; of the present query, which may go on, that isn't said
 LeftAt : ℕ → Present → List QueryRun → Type 0
@@ -150,9 +150,9 @@ left-front : (work : ℕ) (runs : List QueryRun) (run : QueryRun) → HaveWorkLe
 left-front work [] run left = tt
 left-front work (first ∷ runs) run left = (left.0, left-front work runs run left.1)
 
-left-last : (work : ℕ) (runs : List QueryRun) (took : Took) → HaveWorkLeft work (runs ++ run_of took ∷ []) → took.runs < work
-left-last work [] took left = let here = left.0 in omega (arith, here)
-left-last work (first ∷ runs) took left = left-last work runs took left.1
+left-last : (work : ℕ) (runs : List QueryRun) (taken : Took) → HaveWorkLeft work (runs ++ run_of taken ∷ []) → taken.runs < work
+left-last work [] taken left = let here = left.0 in omega (arith, here)
+left-last work (first ∷ runs) taken left = left-last work runs taken left.1
 
 left-any : (work : ℕ) (present : Present) (runs : List QueryRun) → HaveWorkLeft work runs → LeftAt work present runs
 unfolding LeftAt
@@ -171,15 +171,15 @@ left-before work manner program log present asked next old new writes (Serves.pa
 left-before work manner program log present asked next old new writes (Serves.has_no_query runs its hands) left = left
 left-before work manner program log present asked next old new writes (Serves.is_too_long before runs its hands) left = left-any work before runs left
 left-before work manner program log present asked next old new writes (Serves.refused before text line runs its is hands) left = left-any work before runs left
-left-before work manner program log present asked next old new writes (Serves.answered before text goal took runs its asks so_far) left = left-any work before runs (left runs took refl)
-left-before work manner program log present asked next old new writes (Serves.ended before text goal took runs its asks end) left = left-any work before runs (left-front work runs (run_of took) left)
-left-before work manner program log present asked next old new writes (Serves.answered_more goal requests before took earlier runs its so_far) left = left-more work goal requests earlier runs before (left runs took refl)
-left-before work manner program log present asked next old new writes (Serves.ended_later goal requests before took earlier runs its end) left = left-more work goal requests earlier runs before (left-front work runs (run_of took) left)
+left-before work manner program log present asked next old new writes (Serves.answered before text goal taken runs its asks so_far) left = left-any work before runs (left runs taken refl)
+left-before work manner program log present asked next old new writes (Serves.ended before text goal taken runs its asks end) left = left-any work before runs (left-front work runs (run_of taken) left)
+left-before work manner program log present asked next old new writes (Serves.answered_more goal requests before taken earlier runs its so_far) left = left-more work goal requests earlier runs before (left runs taken refl)
+left-before work manner program log present asked next old new writes (Serves.ended_later goal requests before taken earlier runs its end) left = left-more work goal requests earlier runs before (left-front work runs (run_of taken) left)
 
 -- at a query that ended
-left-ended : (work : ℕ) (next : Present) (new runs : List QueryRun) (took : Took) → next ≡ no_query → new ≡ runs ++ run_of took ∷ [] → LeftAt work next new → took.runs < work
+left-ended : (work : ℕ) (next : Present) (new runs : List QueryRun) (taken : Took) → next ≡ no_query → new ≡ runs ++ run_of taken ∷ [] → LeftAt work next new → taken.runs < work
 unfolding LeftAt
-left-ended work next new runs took none is left = left-last work runs took (rw (none, is) at left)
+left-ended work next new runs taken ended is left = left-last work runs taken (rw (ended, is) at left)
 
 -- ---- a line
 
@@ -198,17 +198,17 @@ record SameServed (present other : Present) (runs more : List QueryRun) (writes 
 -- what a request for the next answer comes to
 data ServedMore (manner : Manner) (program : ProgramTree) (log : List LogEntry) (present next : Present) (old new : List QueryRun) (writes : List SinkWrite) : Type 0 where
   nothing_there : present ≡ no_query → next ≡ no_query → new ≡ old → Hands no_query_line writes → ServedMore manner program log present next old new writes
-  goes_on : (goal : ExpTree) (requests : ℕ) (before took : Took) (earlier : List SinkWrite) (runs : List QueryRun) → present ≡ query goal requests earlier → next ≡ query goal (suc requests) (earlier ++ writes) → old ≡ runs ++ run_of before ∷ [] →
-      new ≡ runs ++ run_of took ∷ [] → QuerySoFar manner program goal log (suc requests) took (earlier ++ writes) → ServedMore manner program log present next old new writes
-  ends : (goal : ExpTree) (requests : ℕ) (before took : Took) (earlier : List SinkWrite) (runs : List QueryRun) → present ≡ query goal requests earlier → next ≡ no_query → old ≡ runs ++ run_of before ∷ [] →
-      new ≡ runs ++ run_of took ∷ [] → QueryEnded manner program goal log (suc requests) took (earlier ++ writes) → ServedMore manner program log present next old new writes
+  goes_on : (goal : ExpTree) (requests : ℕ) (before taken : Took) (earlier : List SinkWrite) (runs : List QueryRun) → present ≡ query goal requests earlier → next ≡ query goal (suc requests) (earlier ++ writes) → old ≡ runs ++ run_of before ∷ [] →
+      new ≡ runs ++ run_of taken ∷ [] → QuerySoFar manner program goal log (suc requests) taken (earlier ++ writes) → ServedMore manner program log present next old new writes
+  ends : (goal : ExpTree) (requests : ℕ) (before taken : Took) (earlier : List SinkWrite) (runs : List QueryRun) → present ≡ query goal requests earlier → next ≡ no_query → old ≡ runs ++ run_of before ∷ [] →
+      new ≡ runs ++ run_of taken ∷ [] → QueryEnded manner program goal log (suc requests) taken (earlier ++ writes) → ServedMore manner program log present next old new writes
 
 -- what a goal comes to
 data ServedGoal (manner : Manner) (program : ProgramTree) (log : List LogEntry) (text : List ℕ) (next : Present) (old new : List QueryRun) (writes : List SinkWrite) : Type 0 where
   is_refused : (line : List ℕ) → RefusesOf program text line → next ≡ no_query → new ≡ old → Hands line writes → ServedGoal manner program log text next old new writes
-  goes_on : (goal : ExpTree) (took : Took) → AsksOf program text goal → next ≡ query goal 1 writes → new ≡ old ++ run_of took ∷ [] → QuerySoFar manner program goal log 1 took writes →
+  goes_on : (goal : ExpTree) (taken : Took) → AsksOf program text goal → next ≡ query goal 1 writes → new ≡ old ++ run_of taken ∷ [] → QuerySoFar manner program goal log 1 taken writes →
       ServedGoal manner program log text next old new writes
-  ends : (goal : ExpTree) (took : Took) → AsksOf program text goal → next ≡ no_query → new ≡ old ++ run_of took ∷ [] → QueryEnded manner program goal log 1 took writes →
+  ends : (goal : ExpTree) (taken : Took) → AsksOf program text goal → next ≡ no_query → new ≡ old ++ run_of taken ∷ [] → QueryEnded manner program goal log 1 taken writes →
       ServedGoal manner program log text next old new writes
 
 ServedBy : Manner → ProgramTree → List LogEntry → Present → Asked → Present → List QueryRun → List QueryRun → List SinkWrite → Type 0
@@ -257,50 +257,50 @@ behind-same earlier writes before more front all =
     append_cancel_left (taken_by earlier) (taken_by writes) (taken_by more)
     (sym (taken_by-append earlier writes) ∙ all ∙ taken_by-append before more ∙ ap (λ l. l ++ taken_by more) (sym front))
 
-runs-one : (old was new more runs others : List QueryRun) (before its took their : Took) → SameRuns old was → old ≡ runs ++ run_of before ∷ [] → was ≡ others ++ run_of its ∷ [] → new ≡ runs ++ run_of took ∷ [] → more ≡ others ++ run_of their ∷ [] →
-    took.ticks ≡ their.ticks → SameRuns new more
-runs-one old was new more runs others before its took their listed a b c d same =
+runs-one : (old was new more runs others : List QueryRun) (before its taken their : Took) → SameRuns old was → old ≡ runs ++ run_of before ∷ [] → was ≡ others ++ run_of its ∷ [] → new ≡ runs ++ run_of taken ∷ [] → more ≡ others ++ run_of their ∷ [] →
+    taken.ticks ≡ their.ticks → SameRuns new more
+runs-one old was new more runs others before its taken their listed a b c d same =
     let front : SameRuns runs others = same-front runs others before its (rw (a, b) at listed) in
-    rw (c, d) (same-pushed runs others took their front same)
+    rw (c, d) (same-pushed runs others taken their front same)
 
 more-one : (manner : Manner) (program : ProgramTree) (log : List LogEntry) (present other next after : Present) (old was new more : List QueryRun) (writes others : List SinkWrite) → SamePresent present other → SameRuns old was → LeftAt manner.work next new → LeftAt manner.work after more →
     ServedMore manner program log present next old new writes → ServedMore manner program log other after was more others → SameServed next after new more writes others
 more-one manner program log present other next after old was new more writes others same listed left right (ServedMore.nothing_there a b c d) (ServedMore.nothing_there e f g h) =
     record { presents = same-none next after b f; runs_are = rw (c, g) listed; bytes = same-hands no_query_line writes others d h }
-more-one manner program log present other next after old was new more writes others same listed left right (ServedMore.nothing_there a b c d) (ServedMore.goes_on goal requests before took earlier runs e f g h so_far) =
+more-one manner program log present other next after old was new more writes others same listed left right (ServedMore.nothing_there a b c d) (ServedMore.goes_on goal requests before taken earlier runs e f g h so_far) =
     none-some present other goal requests earlier same a e
-more-one manner program log present other next after old was new more writes others same listed left right (ServedMore.nothing_there a b c d) (ServedMore.ends goal requests before took earlier runs e f g h end) =
+more-one manner program log present other next after old was new more writes others same listed left right (ServedMore.nothing_there a b c d) (ServedMore.ends goal requests before taken earlier runs e f g h end) =
     none-some present other goal requests earlier same a e
-more-one manner program log present other next after old was new more writes others same listed left right (ServedMore.goes_on goal requests before took earlier runs a b c d so_far) (ServedMore.nothing_there e f g h) =
+more-one manner program log present other next after old was new more writes others same listed left right (ServedMore.goes_on goal requests before taken earlier runs a b c d so_far) (ServedMore.nothing_there e f g h) =
     some-none present other goal requests earlier same a e
-more-one manner program log present other next after old was new more writes others same listed left right (ServedMore.ends goal requests before took earlier runs a b c d end) (ServedMore.nothing_there e f g h) =
+more-one manner program log present other next after old was new more writes others same listed left right (ServedMore.ends goal requests before taken earlier runs a b c d end) (ServedMore.nothing_there e f g h) =
     some-none present other goal requests earlier same a e
-more-one manner program log present other next after old was new more writes others same listed left right (ServedMore.goes_on goal requests before took earlier runs a b c d so_far)
-    (ServedMore.goes_on goal' requests' before' took' earlier' runs' e f g h so_far') =
+more-one manner program log present other next after old was new more writes others same listed left right (ServedMore.goes_on goal requests before taken earlier runs a b c d so_far)
+    (ServedMore.goes_on goal' requests' before' taken' earlier' runs' e f g h so_far') =
     let is = both-some present other goal goal' requests requests' earlier earlier' same a e in
-    let its : QuerySoFar manner program goal log (suc requests) took' (earlier' ++ others) = rw (← is.0, ← is.1) at so_far' in
-    let turn = so-far-one manner program goal log (suc requests) took took' (earlier ++ writes) (earlier' ++ others) so_far its in
+    let its : QuerySoFar manner program goal log (suc requests) taken' (earlier' ++ others) = rw (← is.0, ← is.1) at so_far' in
+    let turn = so-far-one manner program goal log (suc requests) taken taken' (earlier ++ writes) (earlier' ++ others) so_far its in
     record {
       presents = same-some next after goal goal' (suc requests) (suc requests') (earlier ++ writes) (earlier' ++ others) b f is.0 (ap suc is.1) turn.same_bytes;
-      runs_are = runs-one old was new more runs runs' before before' took took' listed c g d h turn.same_ticks;
+      runs_are = runs-one old was new more runs runs' before before' taken taken' listed c g d h turn.same_ticks;
       bytes = behind-same earlier writes earlier' others is.2 turn.same_bytes;
     }
-more-one manner program log present other next after old was new more writes others same listed left right (ServedMore.goes_on goal requests before took earlier runs a b c d so_far)
-    (ServedMore.ends goal' requests' before' took' earlier' runs' e f g h end) =
+more-one manner program log present other next after old was new more writes others same listed left right (ServedMore.goes_on goal requests before taken earlier runs a b c d so_far)
+    (ServedMore.ends goal' requests' before' taken' earlier' runs' e f g h end) =
     let is = both-some present other goal goal' requests requests' earlier earlier' same a e in
-    so-far-no-end manner program goal log (suc requests) took took' (earlier ++ writes) (earlier' ++ others) (left-ended manner.work after more runs' took' f h right) so_far (rw (← is.0, ← is.1) at end)
-more-one manner program log present other next after old was new more writes others same listed left right (ServedMore.ends goal requests before took earlier runs a b c d end)
-    (ServedMore.goes_on goal' requests' before' took' earlier' runs' e f g h so_far) =
+    so-far-no-end manner program goal log (suc requests) taken taken' (earlier ++ writes) (earlier' ++ others) (left-ended manner.work after more runs' taken' f h right) so_far (rw (← is.0, ← is.1) at end)
+more-one manner program log present other next after old was new more writes others same listed left right (ServedMore.ends goal requests before taken earlier runs a b c d end)
+    (ServedMore.goes_on goal' requests' before' taken' earlier' runs' e f g h so_far) =
     let is = both-some present other goal goal' requests requests' earlier earlier' same a e in
-    so-far-no-end manner program goal log (suc requests) took' took (earlier' ++ others) (earlier ++ writes) (left-ended manner.work next new runs took b d left) (rw (← is.0, ← is.1) at so_far) end
-more-one manner program log present other next after old was new more writes others same listed left right (ServedMore.ends goal requests before took earlier runs a b c d end)
-    (ServedMore.ends goal' requests' before' took' earlier' runs' e f g h end') =
+    so-far-no-end manner program goal log (suc requests) taken' taken (earlier' ++ others) (earlier ++ writes) (left-ended manner.work next new runs taken b d left) (rw (← is.0, ← is.1) at so_far) end
+more-one manner program log present other next after old was new more writes others same listed left right (ServedMore.ends goal requests before taken earlier runs a b c d end)
+    (ServedMore.ends goal' requests' before' taken' earlier' runs' e f g h end') =
     let is = both-some present other goal goal' requests requests' earlier earlier' same a e in
-    let its : QueryEnded manner program goal log (suc requests) took' (earlier' ++ others) = rw (← is.0, ← is.1) at end' in
-    let turn = ended-one manner program goal log (suc requests) took took' (earlier ++ writes) (earlier' ++ others) (left-ended manner.work next new runs took b d left) (left-ended manner.work after more runs' took' f h right) end its in
+    let its : QueryEnded manner program goal log (suc requests) taken' (earlier' ++ others) = rw (← is.0, ← is.1) at end' in
+    let turn = ended-one manner program goal log (suc requests) taken taken' (earlier ++ writes) (earlier' ++ others) (left-ended manner.work next new runs taken b d left) (left-ended manner.work after more runs' taken' f h right) end its in
     record {
       presents = same-none next after b f;
-      runs_are = runs-one old was new more runs runs' before before' took took' listed c g d h turn.same_ticks;
+      runs_are = runs-one old was new more runs runs' before before' taken taken' listed c g d h turn.same_ticks;
       bytes = behind-same earlier writes earlier' others is.2 turn.same_bytes;
     }
 
@@ -308,30 +308,30 @@ goal-one : (o : AreOne) (manner : Manner) (program : ProgramTree) (log : List Lo
     ServedGoal manner program log text next old new writes → ServedGoal manner program log text after was more others → SameServed next after new more writes others
 goal-one o manner program log text next after old was new more writes others listed left right (ServedGoal.is_refused line is a b hands) (ServedGoal.is_refused line' is' c d hands') =
     record { presents = same-none next after a c; runs_are = rw (b, d) listed; bytes = same-hands line writes others hands (rw (← one-refuses o program text line line' is is') at hands') }
-goal-one o manner program log text next after old was new more writes others listed left right (ServedGoal.is_refused line is a b hands) (ServedGoal.goes_on goal took asks c d so_far) = absurd (asks-or-not o program text line goal asks is)
-goal-one o manner program log text next after old was new more writes others listed left right (ServedGoal.is_refused line is a b hands) (ServedGoal.ends goal took asks c d end) = absurd (asks-or-not o program text line goal asks is)
-goal-one o manner program log text next after old was new more writes others listed left right (ServedGoal.goes_on goal took asks a b so_far) (ServedGoal.is_refused line is c d hands) = absurd (asks-or-not o program text line goal asks is)
-goal-one o manner program log text next after old was new more writes others listed left right (ServedGoal.ends goal took asks a b end) (ServedGoal.is_refused line is c d hands) = absurd (asks-or-not o program text line goal asks is)
-goal-one o manner program log text next after old was new more writes others listed left right (ServedGoal.goes_on goal took asks a b so_far) (ServedGoal.goes_on goal' took' asks' c d so_far') =
+goal-one o manner program log text next after old was new more writes others listed left right (ServedGoal.is_refused line is a b hands) (ServedGoal.goes_on goal taken asks c d so_far) = absurd (asks-or-not o program text line goal asks is)
+goal-one o manner program log text next after old was new more writes others listed left right (ServedGoal.is_refused line is a b hands) (ServedGoal.ends goal taken asks c d end) = absurd (asks-or-not o program text line goal asks is)
+goal-one o manner program log text next after old was new more writes others listed left right (ServedGoal.goes_on goal taken asks a b so_far) (ServedGoal.is_refused line is c d hands) = absurd (asks-or-not o program text line goal asks is)
+goal-one o manner program log text next after old was new more writes others listed left right (ServedGoal.ends goal taken asks a b end) (ServedGoal.is_refused line is c d hands) = absurd (asks-or-not o program text line goal asks is)
+goal-one o manner program log text next after old was new more writes others listed left right (ServedGoal.goes_on goal taken asks a b so_far) (ServedGoal.goes_on goal' taken' asks' c d so_far') =
     let same : goal ≡ goal' = one-asks o program text goal goal' asks asks' in
-    let turn = so-far-one manner program goal log 1 took took' writes others so_far (rw (← same) at so_far') in
+    let turn = so-far-one manner program goal log 1 taken taken' writes others so_far (rw (← same) at so_far') in
     record {
       presents = same-some next after goal goal' 1 1 writes others a c same refl turn.same_bytes;
-      runs_are = rw (b, d) (same-pushed old was took took' listed turn.same_ticks);
+      runs_are = rw (b, d) (same-pushed old was taken taken' listed turn.same_ticks);
       bytes = turn.same_bytes;
     }
-goal-one o manner program log text next after old was new more writes others listed left right (ServedGoal.goes_on goal took asks a b so_far) (ServedGoal.ends goal' took' asks' c d end) =
+goal-one o manner program log text next after old was new more writes others listed left right (ServedGoal.goes_on goal taken asks a b so_far) (ServedGoal.ends goal' taken' asks' c d end) =
     let same : goal ≡ goal' = one-asks o program text goal goal' asks asks' in
-    so-far-no-end manner program goal log 1 took took' writes others (left-ended manner.work after more was took' c d right) so_far (rw (← same) at end)
-goal-one o manner program log text next after old was new more writes others listed left right (ServedGoal.ends goal took asks a b end) (ServedGoal.goes_on goal' took' asks' c d so_far) =
+    so-far-no-end manner program goal log 1 taken taken' writes others (left-ended manner.work after more was taken' c d right) so_far (rw (← same) at end)
+goal-one o manner program log text next after old was new more writes others listed left right (ServedGoal.ends goal taken asks a b end) (ServedGoal.goes_on goal' taken' asks' c d so_far) =
     let same : goal ≡ goal' = one-asks o program text goal goal' asks asks' in
-    so-far-no-end manner program goal log 1 took' took others writes (left-ended manner.work next new old took a b left) (rw (← same) at so_far) end
-goal-one o manner program log text next after old was new more writes others listed left right (ServedGoal.ends goal took asks a b end) (ServedGoal.ends goal' took' asks' c d end') =
+    so-far-no-end manner program goal log 1 taken' taken others writes (left-ended manner.work next new old taken a b left) (rw (← same) at so_far) end
+goal-one o manner program log text next after old was new more writes others listed left right (ServedGoal.ends goal taken asks a b end) (ServedGoal.ends goal' taken' asks' c d end') =
     let same : goal ≡ goal' = one-asks o program text goal goal' asks asks' in
-    let turn = ended-one manner program goal log 1 took took' writes others (left-ended manner.work next new old took a b left) (left-ended manner.work after more was took' c d right) end (rw (← same) at end') in
+    let turn = ended-one manner program goal log 1 taken taken' writes others (left-ended manner.work next new old taken a b left) (left-ended manner.work after more was taken' c d right) end (rw (← same) at end') in
     record {
       presents = same-none next after a c;
-      runs_are = rw (b, d) (same-pushed old was took took' listed turn.same_ticks);
+      runs_are = rw (b, d) (same-pushed old was taken taken' listed turn.same_ticks);
       bytes = turn.same_bytes;
     }
 
