@@ -23,3 +23,4 @@ mod DefaultLemmas
 mod DeeperLemmas
 mod RoundLemmas
 mod BestLemmas
+mod ImpliedExample
