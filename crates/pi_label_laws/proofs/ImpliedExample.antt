@@ -29,16 +29,16 @@ use Rattle.pi_label_laws.specs.Made.{MayLabel}
 use Rattle.pi_label_laws.specs.LabelledLaws.{AreAmong, WithoutConstraintsMayBeLabelled}
 use Rattle.pi_label_laws.proofs.PostedLemmas.{without_constraints_may_be_labelled, postings_may_be_labelled}
 
-abbrev bit : Variable
+abbrev pub bit : Variable
 bit = within (record { lo = pos 0; hi = pos 1 } ∷ [])
 
-abbrev begin : State
+abbrev pub begin : State
 begin = record { variables = bit ∷ bit ∷ bit ∷ []; constraints = []; agents = []; waiting = [] }
 
 abbrev goal : Tree
 goal = two (codes "#=>") (two (codes "#/\\") (var 0) (var 1)) (var 2)
 
-abbrev three : List Item
+abbrev pub three : List Item
 three = Item.Var 0 ∷ Item.Var 1 ∷ Item.Var 2 ∷ []
 
 -- V - 1 <= 0 and -V <= 0, in front of others
@@ -46,7 +46,7 @@ abbrev truth : ℕ → List Constraint → List Constraint
 truth v cs = at_most (term (pos 1) v ∷ []) (negsuc 0) ∷ at_most (term (negsuc 0) v ∷ []) (pos 0) ∷ cs
 
 -- The truth of X #/\ Y is variable 3: it is at most X and at most Y, and X + Y - 1 is at most it. The truth of the whole is variable 4, and that is 1.
-abbrev posted : Posting
+abbrev pub posted : Posting
 posted = posts 2 (truth 0 (truth 1 (truth 3
     (at_most (term (negsuc 0) 0 ∷ term (pos 1) 3 ∷ []) (pos 0) ∷
     at_most (term (negsuc 0) 1 ∷ term (pos 1) 3 ∷ []) (pos 0) ∷

@@ -24,3 +24,4 @@ mod DeeperLemmas
 mod RoundLemmas
 mod BestLemmas
 mod ImpliedExample
+mod SevenExample
