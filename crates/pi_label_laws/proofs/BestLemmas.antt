@@ -1,13 +1,11 @@
 -- With an objective the one answer of a labelling is a best assignment.
-use Rattle.std.specs.Prelude.{◌≡◌, ◌⊎◌, ℕ, zero, suc, ◌+◌, ◌<◌, ◌≤◌, ℤ, pos, negsuc, neg_ℤ, ◌+ℤ◌, ◌-ℤ◌, ◌<ℤ◌, ◌≤ℤ◌, Bool, true, false, List, [], ◌∷◌, length, Option, Some, None, Contains, refl}
+use Rattle.std.specs.Prelude.{◌≡◌, ℕ, zero, suc, ◌+◌, ◌≤◌, ℤ, pos, negsuc, neg_ℤ, ◌+ℤ◌, ◌-ℤ◌, ◌<ℤ◌, ◌≤ℤ◌, Bool, true, false, List, [], ◌∷◌, Option, Some, Contains, refl}
 use Rattle.std.specs.Int.{int_min}
-use Rattle.std.proofs.Common.{arith, sym, ◌∙◌, ap, subst, inl, inr}
+use Rattle.std.proofs.Common.{arith, ◌∙◌, ap, subst, inl, inr}
 use Rattle.std.proofs.lemmas.Int.{ints, clamps}
-use Rattle.pi_terms.specs.Tree.{Tree, int}
-use Rattle.pi_terms.specs.Places.{held}
-use Rattle.pi_constraints.specs.declared.constraint.Item.{Item}
-use Rattle.pi_constraints.specs.State.{State, bindings, IsState}
-use Rattle.pi_traces.specs.Trace.{Trace, end, note, ans, Done, done, one, alt, then, answers, end_of}
+use Rattle.pi_terms.specs.Tree.{int}
+use Rattle.pi_constraints.specs.State.{State, IsState}
+use Rattle.pi_traces.specs.Trace.{Trace, end, note, ans, Done, done, one, then, answers, end_of}
 use Rattle.pi_traces.specs.Control.{chosen}
 use Rattle.pi_traces.proofs.TraceLemmas.{alt-done}
 use Rattle.pi_settling.specs.SettlingLaws.{Settles}
@@ -15,14 +13,12 @@ use Rattle.pi_settling.specs.Options.{Objective}
 use Rattle.pi_settling.specs.Confined.{confined}
 use Rattle.pi_settling.specs.Reading.{Sum, reads, Solving}
 use Rattle.pi_settling.specs.Rounds.{better_sign, operand_posted, begins, betters, worth, round, weighed, bettered, sought, solved_for, solved}
-use Rattle.pi_settling.proofs.RootLemmas.{Kept}
-use Rattle.pi_label_laws.specs.Made.{MayLabel}
 use Rattle.pi_label_laws.specs.SolutionLaws.{RunsWhatWaits, AreTold}
-use Rattle.pi_label_laws.specs.ObjectiveLaws.{IsAssignment, PostsMore, IsBetter, IsReadRightly, IsBestAnswer, ObjectiveGivesTheBest}
+use Rattle.pi_label_laws.specs.ObjectiveLaws.{IsAssignment, IsBetter, IsReadRightly, IsBestAnswer, ObjectiveGivesTheBest}
 use Rattle.pi_label_laws.proofs.PickLemmas.{AreOut}
 use Rattle.pi_label_laws.proofs.BeginLemmas.{asked-good, good-out}
 use Rattle.pi_label_laws.proofs.GivesLemmas.{confined-goes_on, answers-solved, Gives, gives}
-use Rattle.pi_label_laws.proofs.RoundLemmas.{AllGood, IsRound, Round, round-of}
+use Rattle.pi_label_laws.proofs.RoundLemmas.{AllGood, Round, round-of}
 
 -- ---- the first answer of a trace, or none
 

@@ -1,18 +1,16 @@
 -- [X,Y,Z] :: 0..1, (X #/\ Y) #=> Z, worked through the definitions: the goal leaves a state that may be labelled by X, Y and Z, though the truth of X #/\ Y stands in sums at most 0 alone.
-use Rattle.std.specs.Prelude.{◌≡◌, ◌⊎◌, ℕ, zero, suc, ◌<◌, ◌≤◌, ℤ, pos, negsuc, List, [], ◌∷◌, length, map, Some, None, slice_get, Contains, Ok, codes, refl}
-use Rattle.std.proofs.Common.{arith, sym, ◌∙◌, ap, subst, inl, inr}
+use Rattle.std.specs.Prelude.{◌≡◌, ℕ, zero, suc, ◌<◌, pos, negsuc, List, [], ◌∷◌, Some, slice_get, Contains, Ok, codes, refl}
+use Rattle.std.proofs.Common.{arith, subst, inl, inr}
 use Rattle.std.proofs.lemmas.Int.{ints}
 use Rattle.pi_terms.specs.Tree.{Tree, var}
-use Rattle.pi_terms.specs.Variables.{Occurs, occurrences, firsts}
+use Rattle.pi_terms.specs.Variables.{Occurs}
 use Rattle.pi_terms.specs.Places.{held}
 use Rattle.pi_terms.specs.Substitution.{instance}
 use Rattle.pi_constraints.specs.declared.constraint.Constraint.{Constraint}
-use Rattle.pi_constraints.specs.declared.constraint.Rel.{Rel}
 use Rattle.pi_constraints.specs.declared.constraint.Item.{Item}
-use Rattle.pi_constraints.specs.declared.domain.Span.{Span}
-use Rattle.pi_constraints.specs.Domain.{AscendFrom, IsDomain, numbers_from, values_of, size_of}
+use Rattle.pi_constraints.specs.Domain.{AscendFrom, IsDomain, numbers_from, values_of}
 use Rattle.pi_constraints.specs.Value.{rounds, value}
-use Rattle.pi_constraints.specs.State.{State, Variable, free, within, binding, bindings, next, followed_for, followed, SpeaksBelow, IsVariable, IsState}
+use Rattle.pi_constraints.specs.State.{State, Variable, within, bindings, followed_for, followed, SpeaksBelow, IsVariable, IsState}
 use Rattle.pi_prop_spec.specs.Terms.{operand_of, operands_of, operands_of_array, operands_of_list, comparison_named, connective_named, boolean_of, goal_of}
 use Rattle.pi_prop_spec.specs.PostingSums.{with_term, with_terms, scaled_terms}
 use Rattle.pi_prop_spec.specs.Steps.{have_128_bits, read_operand, read_items}
@@ -24,9 +22,8 @@ use Rattle.pi_prop_spec.proofs.Worked.{two, term, at_most, equal, posts}
 use Rattle.pi_settling.specs.Roots.{root_item}
 use Rattle.pi_settling.specs.Stable.{IsStable}
 use Rattle.pi_settling.specs.Posted.{posted_in}
-use Rattle.pi_settling.proofs.CalmLemmas.{without_constraints_is_calm, calm_is_stable}
 use Rattle.pi_label_laws.specs.Made.{MayLabel}
-use Rattle.pi_label_laws.specs.LabelledLaws.{AreAmong, WithoutConstraintsMayBeLabelled}
+use Rattle.pi_label_laws.specs.LabelledLaws.{AreAmong}
 use Rattle.pi_label_laws.proofs.PostedLemmas.{without_constraints_may_be_labelled, postings_may_be_labelled}
 
 abbrev pub bit : Variable

@@ -25,3 +25,5 @@ mod RoundLemmas
 mod BestLemmas
 mod ImpliedExample
 mod SevenExample
+mod OperandReads
+mod PostsAfter

@@ -1,7 +1,6 @@
 -- [X,Y,Z] :: 0..1, (X #/\ Y) #=> Z, solve([X,Y,Z]) has seven answers: what the goal leaves, settled, is labelled by computing.
-use Rattle.std.specs.Prelude.{◌≡◌, ℕ, ℤ, pos, negsuc, List, [], ◌∷◌, map, None, Some, refl}
+use Rattle.std.specs.Prelude.{ℕ, ℤ, pos, List, [], ◌∷◌, None, refl}
 use Rattle.pi_terms.specs.Tree.{int}
-use Rattle.pi_constraints.specs.declared.constraint.Item.{Item}
 use Rattle.pi_constraints.specs.Domain.{has_value, numbers_from, values_of, overlap, shared, common}
 use Rattle.pi_constraints.specs.State.{State, bound, followed_for, followed}
 use Rattle.pi_traces.specs.Trace.{one, then, alt, answers}
