@@ -27,3 +27,5 @@ mod ImpliedExample
 mod SevenExample
 mod OperandReads
 mod PostsAfter
+mod AlikeLemmas
+mod OperandPosts
