@@ -120,7 +120,7 @@ default-root s n free e x = free-root s n e x
 default-root s n (within d) e x = refl
 default-root s n (bound t) e x = refl
 
-one-root : (s : State) (y x : Item) → root_item (confined_at s y) x ≡ root_item s x
+pub one-root : (s : State) (y x : Item) → root_item (confined_at s y) x ≡ root_item s x
 one-root s (Item.Var n) x = default-root s n (variable s n) refl x
 one-root s (Item.Int i) x = refl
 

@@ -29,3 +29,4 @@ mod OperandReads
 mod PostsAfter
 mod AlikeLemmas
 mod OperandPosts
+mod PostSolves
