@@ -30,3 +30,4 @@ mod PostsAfter
 mod AlikeLemmas
 mod OperandPosts
 mod PostSolves
+mod WorthLemmas
