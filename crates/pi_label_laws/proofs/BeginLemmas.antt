@@ -70,7 +70,7 @@ root-below n items (comp name (tree t (tree u no_trees))) rest h = cell-below n 
 root-below n items (comp name (tree t (tree u (tree w ts)))) rest h = tt
 
 -- what a term is followed to
-below-followed : (s : State) (t : Tree) → IsState s → SpeaksBelow (next s) t → SpeaksBelow (next s) (followed (bindings s) t)
+pub below-followed : (s : State) (t : Tree) → IsState s → SpeaksBelow (next s) t → SpeaksBelow (next s) (followed (bindings s) t)
 below-followed s t is h = followed_below (next s) (bindings s) t (λ n u e. bound_below s n u is e) h
 
 list-below : (s : State) (k : ℕ) (t : Tree) → IsState s → SpeaksBelow (next s) t → SomeBelow (next s) (items_for k (bindings s) t)

@@ -1,11 +1,8 @@
 -- Confining variables changes no solution but for values past the bounds of variables without a domain.
-use Rattle.std.specs.Prelude.{◌≡◌, ◌⊎◌, ℕ, zero, suc, ◌<◌, ◌≤◌, ℤ, IsTrue, List, [], ◌∷◌, Some, None, Contains, refl}
+use Rattle.std.specs.Prelude.{◌≡◌, ◌⊎◌, ℕ, suc, ◌<◌, ◌≤◌, ℤ, IsTrue, List, [], ◌∷◌, Some, None, Contains, refl}
 use Rattle.std.proofs.Common.{arith, sym, ◌∙◌, ap, subst, inl, inr}
 use Rattle.std.proofs.lemmas.Int.{ints}
-use Rattle.pi_terms.specs.Places.{held}
-use Rattle.pi_constraints.specs.declared.constraint.Constraint.{Constraint}
 use Rattle.pi_constraints.specs.declared.constraint.Item.{Item}
-use Rattle.pi_constraints.specs.declared.domain.Span.{Span}
 use Rattle.pi_constraints.specs.Domain.{IsWithinBounds, has_value}
 use Rattle.pi_constraints.specs.State.{State, Variable, free, within, bound, binding, bindings, next, domain_in, domain_of, with_domain}
 use Rattle.pi_constraints.proofs.StateLemmas.{variable, held_is, same_or_not, domain_here, domain_elsewhere, domain_bindings}
@@ -14,7 +11,6 @@ use Rattle.pi_settling.specs.Roots.{root_item, all_values, domain_or_all, given,
 use Rattle.pi_settling.specs.Solves.{Solves}
 use Rattle.pi_settling.specs.Confined.{with_default, confined_at, confined}
 use Rattle.pi_settling.proofs.TwiceLemmas.{has_in}
-use Rattle.pi_settling.proofs.UniqueLemmas.{domain_made}
 use Rattle.pi_settling.proofs.ConfinedLemmas.{root-same}
 use Rattle.pi_settling.proofs.CalmGoals.{past-changed}
 
@@ -124,7 +120,7 @@ default-root s n free e x = free-root s n e x
 default-root s n (within d) e x = refl
 default-root s n (bound t) e x = refl
 
-one-root : (s : State) (y x : Item) → root_item (confined_at s y) x ≡ root_item s x
+pub one-root : (s : State) (y x : Item) → root_item (confined_at s y) x ≡ root_item s x
 one-root s (Item.Var n) x = default-root s n (variable s n) refl x
 one-root s (Item.Int i) x = refl
 

@@ -24,8 +24,9 @@ use Rattle.pi_settling.proofs.ConfinedLemmas.{confining_binds_nothing, all-keep,
 use Rattle.pi_settling.proofs.CalmPosted.{confined_may_settle}
 use Rattle.pi_settling.proofs.LabelKeeps.{GoesOnFrom, labelling_keeps_solutions}
 use Rattle.pi_settling.proofs.EndLemmas.{labelling_ends}
+use Rattle.pi_settling.proofs.SettleLemmas.{settled_settles}
 use Rattle.pi_label_laws.specs.Made.{MayLabel}
-use Rattle.pi_label_laws.specs.SolutionLaws.{RunsWhatWaits, AreTold, AnswersTell, StandsBefore, LabellingGivesTheSolutions}
+use Rattle.pi_label_laws.specs.SolutionLaws.{RunsWhatWaits, AreTold, AnswersTell, StandsBefore, LabellingGivesTheSolutions, call_of, SolveGivesTheSolutions}
 use Rattle.pi_label_laws.proofs.RestLemmas.{Rests, IsTold}
 use Rattle.pi_label_laws.proofs.RankLemmas.{Behind, all-told}
 use Rattle.pi_label_laws.proofs.SolvedLemmas.{least_solution, told-solved}
@@ -182,3 +183,6 @@ labelling_gives_the_solutions p s words vars asks none below settles runs m =
       subst (λ (t : Trace State). AnswersTell p.items t (map (λ r. told_values r p.items) (answers (labelled_at p.settle p.drains p.chosen_options p.items all.depth c)))) (sym same) all.tell,
       all.all,
     )
+
+pub solve_gives_the_solutions : SolveGivesTheSolutions
+solve_gives_the_solutions drains o items s words vars asks none below runs m = labelling_gives_the_solutions (call_of drains o items) s words vars asks none below settled_settles runs m

@@ -23,3 +23,11 @@ mod DefaultLemmas
 mod DeeperLemmas
 mod RoundLemmas
 mod BestLemmas
+mod ImpliedExample
+mod SevenExample
+mod OperandReads
+mod PostsAfter
+mod AlikeLemmas
+mod OperandPosts
+mod PostSolves
+mod WorthLemmas

@@ -130,6 +130,10 @@ none-pending (p ∷ ps) ff e = absurd cc
 pub told_value : State → Item → ℤ
 told_value r x = value_of (λ n. pos 0) (root_item r x)
 
+pub told-is : (r : State) (x : Item) → told_value r x ≡ value_of (λ n. pos 0) (root_item r x)
+unfolding told_value
+told-is r x = refl
+
 abbrev pub told_values : State → List Item → List ℤ
 told_values r items = map (told_value r) items
 

@@ -26,10 +26,11 @@ use Rattle.pi_settling.proofs.UniqueLemmas.{domain_made}
 use Rattle.pi_settling.proofs.ConfinedLemmas.{one-next, root-same, confining_binds_nothing}
 use Rattle.pi_settling.proofs.CalmItems.{news-like}
 use Rattle.pi_settling.proofs.CalmFollowed.{with-variables}
+use Rattle.pi_settling.proofs.CalmLemmas.{without_constraints_is_calm, calm_is_stable}
 use Rattle.pi_settling.proofs.CalmPosted.{posted_may_settle}
 use Rattle.pi_settling.proofs.CalmReads.{ItemOnly, PlacesOnly, Each, AllOnly}
 use Rattle.pi_settling.proofs.CalmTerms.{goal-reads}
-use Rattle.pi_label_laws.specs.LabelledLaws.{AreAmong, PostingsMayBeLabelled}
+use Rattle.pi_label_laws.specs.LabelledLaws.{AreAmong, WithoutConstraintsMayBeLabelled, PostingsMayBeLabelled}
 use Rattle.pi_label_laws.proofs.GivesLemmas.{confined-constraints}
 use Rattle.pi_label_laws.proofs.LabelledLemmas.{PostsNew, same-number, posts-new-labelled}
 use Rattle.pi_label_laws.proofs.NewGoals.{WasRead, was-read, new_variables_are_made}
@@ -140,3 +141,19 @@ goal-posts s items t p is may below among e =
 
 pub postings_may_be_labelled : PostingsMayBeLabelled
 postings_may_be_labelled s r items t p m below among e f = posts-new-labelled s (posted_in s p) r items p.list m (goal-posts s items t p m.state m.settles below among e) f
+
+pub without_constraints_may_be_labelled : WithoutConstraintsMayBeLabelled
+without_constraints_may_be_labelled s items is none agents waiting =
+    let empty : (c : Constraint) → Contains s.constraints c → ⊥ = λ c at. no-place c (subst (λ (cs : List Constraint). Contains cs c) none at) in
+    record {
+      state = is;
+      settles = λ c y posted at. absurd (empty c posted);
+      stable = calm_is_stable s (without_constraints_is_calm s is none);
+      agents = agents;
+      waiting = waiting;
+      rank = λ n. n;
+      known = λ c y n posted at e. absurd (empty c posted);
+    }
+  where
+    no-place : (c : Constraint) → Contains [] c → ⊥
+    no-place c (k, l, e) = omega arith

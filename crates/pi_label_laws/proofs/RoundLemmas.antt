@@ -1,21 +1,17 @@
 -- One round of a labelling with an objective: it comes to its end, and tells whether there is an assignment, and one.
-use Rattle.std.specs.Prelude.{◌≡◌, ◌⊎◌, ◌↔◌, ℕ, zero, suc, ◌<◌, ◌≤◌, ℤ, IsTrue, List, [], ◌∷◌, length, get_or, map, All, Some, None, Contains, refl}
+use Rattle.std.specs.Prelude.{◌≡◌, ◌⊎◌, ℕ, zero, suc, ◌<◌, ◌≤◌, ℤ, List, [], ◌∷◌, length, All, Some, None, Contains, refl}
 use Rattle.std.proofs.Common.{arith, sym, ◌∙◌, ap, subst, inl, inr}
-use Rattle.pi_terms.specs.Tree.{Tree, int}
 use Rattle.pi_terms.specs.Places.{held}
-use Rattle.pi_constraints.specs.declared.constraint.Constraint.{Constraint}
 use Rattle.pi_constraints.specs.declared.constraint.Item.{Item}
-use Rattle.pi_constraints.specs.declared.domain.Span.{Span}
 use Rattle.pi_constraints.specs.Domain.{IsWithinBounds}
-use Rattle.pi_constraints.specs.State.{State, Variable, free, within, bound, binding, bindings, next, domain_in, domain_of, IsState}
+use Rattle.pi_constraints.specs.State.{State, Variable, binding, bindings, next, domain_in, domain_of, IsState}
 use Rattle.pi_constraints.specs.Value.{Bindings}
 use Rattle.pi_constraints.proofs.StateLemmas.{variable, held_is}
-use Rattle.pi_prop_spec.specs.Solutions.{value_of}
-use Rattle.pi_traces.specs.Trace.{Trace, end, note, ans, Done, done, one, then, answers, end_of}
+use Rattle.pi_traces.specs.Trace.{Trace, Done, done, one, answers, end_of}
 use Rattle.pi_settling.specs.Roots.{root_item, by_domain}
 use Rattle.pi_settling.specs.Stable.{IsEmptied, Narrows, stays_free, stays_bound, some_stay, one_stays, IsStable}
 use Rattle.pi_settling.specs.Load.{load, load_of_failure}
-use Rattle.pi_settling.specs.Settled.{loaded, with_events, IsSettled}
+use Rattle.pi_settling.specs.Settled.{loaded, with_events}
 use Rattle.pi_settling.specs.Solves.{Solves}
 use Rattle.pi_settling.specs.SettlingLaws.{MaySettle, Settles}
 use Rattle.pi_settling.specs.Options.{Options}
@@ -23,7 +19,6 @@ use Rattle.pi_settling.specs.Confined.{confined}
 use Rattle.pi_settling.specs.Label.{labelling, labelled_at}
 use Rattle.pi_settling.specs.Reading.{Solving}
 use Rattle.pi_settling.specs.Rounds.{round}
-use Rattle.pi_settling.specs.Assignments.{Extends}
 use Rattle.pi_settling.specs.KeepLaws.{SolvesSome}
 use Rattle.pi_settling.proofs.RootLemmas.{Kept, root_later}
 use Rattle.pi_settling.proofs.StableLemmas.{settling_keeps_solutions}

@@ -6,10 +6,12 @@ use Rattle.pi_traces.specs.Trace.{Trace, Done, one, answers, end_of}
 use Rattle.pi_constraints.specs.State.{State, next, SpeaksBelow}
 use Rattle.pi_settling.specs.Roots.{root_item}
 use Rattle.pi_settling.specs.SettlingLaws.{Settles}
-use Rattle.pi_settling.specs.Options.{VariableWord, forward, backward, ff, ValueWord, up, down, split, reverse_split}
+use Rattle.pi_settling.specs.Settle.{settled}
+use Rattle.pi_settling.specs.Options.{Options, VariableWord, forward, backward, ff, ValueWord, up, down, split, reverse_split}
 use Rattle.pi_settling.specs.Confined.{confined}
 use Rattle.pi_settling.specs.Asked.{asked, labels}
 use Rattle.pi_settling.specs.Reading.{Solving}
+use Rattle.pi_settling.specs.Read.{constraints_read}
 use Rattle.pi_settling.specs.Rounds.{solved}
 use Rattle.pi_settling.specs.Assignments.{ComesBefore, AreAllBy}
 use Rattle.pi_label_laws.specs.Made.{MayLabel}
@@ -41,3 +43,11 @@ LabellingGivesTheSolutions = (p : Solving) (s : State) (words vars : Tree) → a
     Settles p.settle → RunsWhatWaits p.drains → MayLabel s p.items →
     (d : ℕ) × (lists : List (List ℤ)) × (end_of (solved p d s) ≡ Done) × AnswersTell p.items (solved p d s) lists
     × AreAllBy (StandsBefore p.chosen_options.variable p.chosen_options.value) (confined s p.items) p.items lists
+
+-- a call of `solve` as it is settled and read
+abbrev pub call_of : (ℕ → State → Trace State) → Options → List Item → Solving
+call_of drains o items = record { settle = settled; drains = drains; reading = constraints_read; chosen_options = o; items = items }
+
+abbrev pub SolveGivesTheSolutions : Type 0
+SolveGivesTheSolutions = (drains : ℕ → State → Trace State) (o : Options) (items : List Item) (s : State) (words vars : Tree) → asked s words vars ≡ labels o items → o.objective ≡ None → SpeaksBelow (next s) vars → RunsWhatWaits drains → MayLabel s items →
+    (d : ℕ) × (lists : List (List ℤ)) × (end_of (solved (call_of drains o items) d s) ≡ Done) × AnswersTell items (solved (call_of drains o items) d s) lists × AreAllBy (StandsBefore o.variable o.value) (confined s items) items lists

@@ -1,12 +1,20 @@
 //! Laws of labelling.
-ghost use Rattle.pi_label_laws.specs.LabelledLaws.{PostingsMayBeLabelled};
+ghost use Rattle.pi_label_laws.specs.LabelledLaws.{PostingsMayBeLabelled, WithoutConstraintsMayBeLabelled};
+ghost use Rattle.pi_label_laws.specs.ObjectiveLaws.{ObjectiveGivesTheBest};
 ghost use Rattle.pi_label_laws.specs.ReadingLaws.{NewVariablesAreMade, NewVariablesOfOperandsAreMade};
-ghost use Rattle.pi_label_laws.specs.SolutionLaws.{LabellingGivesTheSolutions};
+ghost use Rattle.pi_label_laws.specs.SolutionLaws.{LabellingGivesTheSolutions, SolveGivesTheSolutions};
 
 /// Without an objective the answers are exactly the assignments of the call's variables that extend to a solution of all that is
-/// posted, each once, in the order of the options.
+/// posted, each once, in the order of the options: by any way to settle, and so by the one that is computed.
 pub fn labelling_gives_the_solutions()
-    ensures { LabellingGivesTheSolutions }
+    ensures labelling { LabellingGivesTheSolutions }
+    ensures solve { SolveGivesTheSolutions }
+{}
+
+/// With an objective whose expression is read rightly the one answer is a best of these assignments, and there is none exactly where
+/// there are no assignments.
+pub fn an_objective_gives_the_best()
+    ensures { ObjectiveGivesTheBest }
 {}
 
 /// The value of each new variable of a posting is made by what is posted, out of those of variables with lower numbers.
@@ -15,7 +23,9 @@ pub fn new_variables_are_made()
     ensures operands { NewVariablesOfOperandsAreMade }
 {}
 
-/// What a goal posts over variables that are labelled, settled, leaves a state that may be labelled.
+/// A state without constraints may be labelled; and what a goal posts over variables that are labelled, settled, leaves one that
+/// may be.
 pub fn postings_may_be_labelled()
-    ensures { PostingsMayBeLabelled }
+    ensures empty { WithoutConstraintsMayBeLabelled }
+    ensures posted { PostingsMayBeLabelled }
 {}
