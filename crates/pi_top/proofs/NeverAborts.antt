@@ -1,37 +1,32 @@
 -- The run of a query doesn't end in an exception that no `catch` catches: only calls that a planner answers raise such ones.
-use Rattle.std.proofs.Common.{◌≡◌, ℕ, zero, suc, ◌+◌, Bool, true, false, List, [], ◌∷◌, ◌++◌, length, Option, Some, None, subst, ap, ◌∙◌, sym}
-use Rattle.std.specs.Prelude.{nat_lt, cond, option_map, replicate, option_and_then, codes, ⊤}
-use Rattle.std.specs.List.{list_any}
-use Rattle.pi_terms.specs.Tree.{Tree, cells, most_cells, comp, Trees, no_trees, tree, tree_count, trees_of}
-use Rattle.pi_terms.specs.Copy.{copy, new_variables}
+use Rattle.std.proofs.Common.{◌≡◌, ℕ, zero, suc, ◌+◌, Bool, true, false, List, [], ◌∷◌, ◌++◌, length, Option, Some, None, ap, ◌∙◌, sym}
+use Rattle.std.specs.Prelude.{nat_lt, replicate, option_and_then, codes, ⊤}
+use Rattle.pi_terms.specs.Tree.{Tree, cells, most_cells, comp, Trees, tree_count, trees_of}
 use Rattle.pi_terms.specs.Places.{Places}
-use Rattle.pi_constraints.specs.State.{State, bindings, followed, next}
-use Rattle.pi_constraints.specs.Unify.{unified}
-use Rattle.pi_constraints.specs.Evaluation.{Evaluated, evaluated, EvaluatedAll, evaluated_all, with_new_variables}
+use Rattle.pi_constraints.specs.State.{State, bindings}
+use Rattle.pi_constraints.specs.Evaluation.{Evaluated, evaluated, EvaluatedAll, evaluated_all}
 use Rattle.pi_constraints.specs.HeadMatch.{matched_all_in}
-use Rattle.pi_effects.specs.Items.{each_tree}
 use Rattle.pi_core.specs.GoalTree.{GoalTree, truth, fail, tick, call, apply, seq, alternatives, if_else, not, once, collect, count, catch, GoalTrees, no_goals, goal}
 use Rattle.pi_core.specs.CoreTree.{ClauseTree, PredTree, QueryTree, backtracks, find_pred}
 use Rattle.pi_core.specs.declared.core_program.NameSlot.{NameSlot}
 use Rattle.pi_core.specs.declared.core_program.SlotWatch.{SlotWatch}
 use Rattle.pi_syntax.specs.declared.program.Mode.{Mode}
-use Rattle.pi_traces.specs.Trace.{Trace, end, Abort, Tick, note, one, done, then, first}
+use Rattle.pi_traces.specs.Trace.{Trace, end, Abort, one, done, then, first}
 use Rattle.pi_traces.specs.Control.{negated, chosen}
-use Rattle.pi_traces.specs.Depth.{Cut, Stop, Ended, cut}
+use Rattle.pi_traces.specs.Depth.{Cut, Ended, cut}
 use Rattle.pi_meaning.specs.Shared.View.{query_view}
 use Rattle.pi_meaning.specs.Shared.Raise.{too_large, within_limit, raised_with}
-use Rattle.pi_meaning.specs.Shared.Settle.{settled, settled_from}
+use Rattle.pi_meaning.specs.Shared.Settle.{settled_from}
 use Rattle.pi_meaning.specs.Shared.Drain.{drained}
-use Rattle.pi_meaning.specs.Shared.Handling.{handled_in, handling}
-use Rattle.pi_meaning.specs.Shared.Level.{Level, lowest, over, Calls, Applied, Point, level_of, calls_at, ticked, unticked}
+use Rattle.pi_meaning.specs.Shared.Level.{Level, lowest, over, Calls, Applied, Point, level_of, calls_at}
 use Rattle.pi_meaning.specs.CoreMeaning.Builtins.{Builtins, predicate_by, function_by}
-use Rattle.pi_meaning.specs.CoreMeaning.Facts.{fact_terms, unified_with, fits_modes, facts, facts_called}
+use Rattle.pi_meaning.specs.CoreMeaning.Facts.{fact_terms, unified_with, facts}
 use Rattle.pi_meaning.specs.CoreMeaning.Instances.{no_later, whole}
 use Rattle.pi_meaning.specs.CoreMeaning.Meaning.{Action, in_state, with_slot, after_arguments, after_term, draining, strictly, calling, applying, ticking, slot_value, copyable, with_list, collecting, counting, catching, meaning, meaning_of_all, meaning_of_any}
-use Rattle.pi_meaning.specs.CoreMeaning.Rules.{guarded, chosen_rule, rule_before, rule_by, rules_by, RulesBy, rules, body_or_agent, pred_run, value_at, value_run, function_run, entered, call_run, application_run, calls_of, quiet_level, level_at}
+use Rattle.pi_meaning.specs.CoreMeaning.Rules.{guarded, chosen_rule, rule_before, rule_by, rules_by, rules, body_or_agent, pred_run, value_at, value_run, function_run, entered, call_run, application_run, calls_of, quiet_level, level_at}
 use Rattle.pi_meaning.specs.CoreMeaning.Run.{Solution, solution, told, answered_with, query_start, query_trace, IsRun}
-use Rattle.pi_top.proofs.NoAborts.{NoAbort, Anything, NoneAborts, no-alt, no-then, no-first, no-negated, no-chosen, no-collected, no-counted, no-caught, no-cond, no-abort-cut}
-use Rattle.pi_top.proofs.NoAbortsGiven.{CallsSafe, IsSafe, calls-safe, no-settled, no-settled_from, no-handled, BuiltinsSafe, whole-safe}
+use Rattle.pi_top.proofs.NoAborts.{NoAbort, Anything, no-alt, no-then, no-first, no-negated, no-chosen, no-collected, no-counted, no-caught, no-cond, no-abort-cut}
+use Rattle.pi_top.proofs.NoAbortsGiven.{CallsSafe, IsSafe, calls-safe, no-settled_from, no-handled, BuiltinsSafe, whole-safe}
 
 -- ---- goals
 

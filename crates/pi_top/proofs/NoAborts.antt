@@ -3,9 +3,9 @@ use Rattle.std.proofs.Common.{◌≡◌, ℕ, zero, suc, Bool, true, false, cond
 use Rattle.std.specs.Option.{option_or}
 use Rattle.std.specs.Prelude.{option_map, ⊤}
 use Rattle.pi_terms.specs.Tree.{Tree}
-use Rattle.pi_traces.specs.Trace.{Trace, end, note, ans, Done, Raise, Abort, Miss, Deep, Note, Tick, Load, Out, one, alt, then, first}
+use Rattle.pi_traces.specs.Trace.{Trace, end, note, ans, Done, Raise, Abort, Miss, Deep, Tick, Load, Out, alt, then, first}
 use Rattle.pi_traces.specs.Control.{negated, chosen, collected, counted, caught}
-use Rattle.pi_traces.specs.Depth.{cut, Stop, Ended, Spent}
+use Rattle.pi_traces.specs.Depth.{cut, Ended}
 
 -- it has no such end, and this holds of each of its answers
 unfoldable pub NoAbort : {A : Type 0} → (A → Type 0) → Trace A → Type 0

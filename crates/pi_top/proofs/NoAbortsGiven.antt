@@ -1,8 +1,7 @@
 -- Calls by name, of built-ins and of terms by `call`, don't end in an exception that no `catch` catches, where what they lead to doesn't and no later stage of the language is there.
-use Rattle.std.proofs.Common.{◌≡◌, ℕ, Bool, List, [], ◌∷◌, Option, Some, None}
-use Rattle.std.specs.Prelude.{cond, option_map, ⊤}
+use Rattle.std.proofs.Common.{ℕ, Bool, List, [], Option, Some, None}
 use Rattle.pi_terms.specs.Tree.{Tree, Trees, no_trees, tree, tree_count}
-use Rattle.pi_constraints.specs.State.{State, bindings, followed}
+use Rattle.pi_constraints.specs.State.{State}
 use Rattle.pi_effects.specs.Effect.{Effect, Succeeds, Fails, Writes, Raises, FunctionEffect, Gives, Refuses}
 use Rattle.pi_core.specs.CoreTree.{PredTree}
 use Rattle.pi_traces.specs.Trace.{Trace, end, Raise, Deep, Tick, note, done, then}
@@ -12,7 +11,7 @@ use Rattle.pi_meaning.specs.Shared.Settle.{settled, settled_from}
 use Rattle.pi_meaning.specs.Shared.Handling.{handled_in, handling}
 use Rattle.pi_meaning.specs.Shared.Builtin.{written, effect_trace, function_trace, settled_effect}
 use Rattle.pi_meaning.specs.Shared.Given.{Setting}
-use Rattle.pi_meaning.specs.Shared.Calls.{built_in, given_later, predicate_given, predicate_called, function_later, function_given, Called, called_by, unknown_name, with_planner, is_known, known_called, call_goal, catch_called, again_called, name_called, term_called, called_at_level, called_below, first_called}
+use Rattle.pi_meaning.specs.Shared.Calls.{built_in, given_later, predicate_given, predicate_called, function_later, function_given, Called, unknown_name, with_planner, known_called, call_goal, catch_called, again_called, term_called, called_at_level, called_below, first_called}
 use Rattle.pi_meaning.specs.Shared.Level.{Level, lowest, over, Calls, Applied, calls_at, or_called, or_applied}
 use Rattle.pi_meaning.specs.CoreMeaning.Builtins.{Builtins, predicate_by, function_by}
 use Rattle.pi_meaning.specs.CoreMeaning.Instances.{no_later, whole, core_setting, predicate_or_call}

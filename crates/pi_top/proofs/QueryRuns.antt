@@ -1,5 +1,5 @@
 -- A query's run, call of `next` by call, and what is printed of it; and the list of the queries that were run.
-use Rattle.std.proofs.Common.{◌≡◌, ◌≤◌, ℕ, suc, ◌+◌, ◌-◌, List, [], ◌∷◌, ◌++◌, Result, refl, sym, ap, subst, ◌∙◌, arith, append_assoc, length, length-append, slice_set}
+use Rattle.std.proofs.Common.{◌≡◌, ◌≤◌, ℕ, suc, ◌+◌, ◌-◌, List, [], ◌∷◌, ◌++◌, Result, refl, ap, subst, ◌∙◌, arith, append_assoc, length, length-append, slice_set}
 use Rattle.pi_outside.specs.Writes.{SinkWrite}
 use Rattle.pi_traces.specs.Trace.{Out, Emitted, noted, answered, count_ticks}
 use Rattle.pi_traces.specs.Depth.{Cut, with_events}
@@ -26,7 +26,7 @@ use Rattle.pi_top.specs.ToldLines.{where_told}
 use Rattle.pi_top.specs.Took.{Bounds, Took, IsAllowed}
 use Rattle.pi_top.proofs.EventLemmas.{print-answer, one-answer, last-answer, print-text, answers-text}
 use Rattle.pi_top.proofs.HandedTexts.{hands-then}
-use Rattle.pi_top.proofs.Taking.{IsTail, tail-of, tail-whole, takes-answer, takes-text}
+use Rattle.pi_top.proofs.Taking.{tail-of, tail-whole, takes-answer, takes-text}
 use Rattle.pi_top.specs.QueryWords.{asked_query, told_query}
 
 -- ---- a query's run

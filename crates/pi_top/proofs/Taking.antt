@@ -2,7 +2,6 @@
 use Rattle.std.proofs.Common.{◌≡◌, ◌≤◌, ℕ, ◌+◌, List, [], ◌∷◌, ◌++◌, refl, ap, ◌∙◌, arith}
 use Rattle.pi_traces.specs.Trace.{Out, Emitted, noted, answered, count_ticks}
 use Rattle.pi_meaning.specs.CoreMeaning.Run.{Solution}
-use Rattle.pi_core.specs.declared.core_program.NameSlot.{NameSlot}
 use Rattle.pi_core.specs.declared.log.Work.{Work}
 use Rattle.pi_outside.specs.Writes.{SinkWrite}
 use Rattle.pi_meaning.specs.declared.happening.Budget.{Budget}
@@ -12,7 +11,6 @@ use Rattle.pi_meaning.specs.Machine.Budget.{Counts, IsWithin, IsWorkUsed}
 use Rattle.pi_engine_stands.specs.Goes.{counted}
 use Rattle.pi_engine.specs.Happens.{sum_of_loads, Adds}
 use Rattle.pi_engine.specs.Seen.{MachineView, mode_of}
-use Rattle.pi_top.specs.declared.manner.Lines.{Lines}
 use Rattle.pi_top.specs.QueryEnd.{count_answers}
 use Rattle.pi_top.specs.QueryWords.{ToldQuery}
 use Rattle.pi_top.specs.Running.{print_solutions, IsSoFar, Called}
