@@ -31,3 +31,5 @@ mod AlikeLemmas
 mod OperandPosts
 mod PostSolves
 mod WorthLemmas
+mod PostsMoreLemmas
+mod RelationNews
