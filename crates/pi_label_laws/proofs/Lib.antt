@@ -33,3 +33,4 @@ mod PostSolves
 mod WorthLemmas
 mod PostsMoreLemmas
 mod RelationNews
+mod ReadRightly

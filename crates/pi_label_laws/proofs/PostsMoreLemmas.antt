@@ -1,10 +1,10 @@
 -- What is posted over the items of a call leaves some of its assignments.
-use Rattle.std.specs.Prelude.{◌≡◌, ◌⊎◌, ◌↔◌, ℕ, zero, suc, ◌<◌, ◌≤◌, ℤ, List, [], ◌∷◌, map, Contains, refl}
+use Rattle.std.specs.Prelude.{◌≡◌, ◌⊎◌, ℕ, suc, ◌<◌, ◌≤◌, ℤ, List, [], ◌∷◌, map, Contains, refl}
 use Rattle.std.proofs.Common.{arith, sym, ◌∙◌, ap, subst, inl, inr}
 use Rattle.pi_constraints.specs.declared.constraint.Constraint.{Constraint}
 use Rattle.pi_constraints.specs.declared.constraint.Item.{Item}
 use Rattle.pi_constraints.specs.Domain.{IsWithinBounds}
-use Rattle.pi_constraints.specs.State.{State, next, IsState}
+use Rattle.pi_constraints.specs.State.{State, next}
 use Rattle.pi_prop_spec.specs.Places.{places_of}
 use Rattle.pi_prop_spec.specs.Solutions.{value_of, Holds}
 use Rattle.pi_prop_spec.specs.Says.{AgreeBelow}
@@ -15,7 +15,7 @@ use Rattle.pi_settling.specs.Confined.{confined}
 use Rattle.pi_settling.specs.Posted.{posted_in}
 use Rattle.pi_settling.proofs.StableLemmas.{root-value}
 use Rattle.pi_label_laws.specs.Made.{MayLabel}
-use Rattle.pi_label_laws.specs.ObjectiveLaws.{IsAssignment, PostsMore}
+use Rattle.pi_label_laws.specs.ObjectiveLaws.{PostsMore}
 use Rattle.pi_label_laws.proofs.BeginLemmas.{IsGood, good-out}
 use Rattle.pi_label_laws.proofs.DefaultLemmas.{confined-up, confined-down}
 use Rattle.pi_label_laws.proofs.LabelledLemmas.{PostsNew, same-number, posts-new-labelled}

@@ -1,11 +1,10 @@
 -- A relation between an operand and an integer makes the variables that the operand's reading makes, and no others where all holds that it posts.
-use Rattle.std.specs.Prelude.{◌≡◌, ◌⊎◌, ℕ, suc, Bool, true, false, cond, List, [], ◌∷◌, ◌++◌, ℤ, pos, Contains, Ok, refl}
-use Rattle.std.proofs.Common.{arith, sym, ◌∙◌, ap, subst, inl, inr}
-use Rattle.pi_constraints.specs.declared.constraint.Constraint.{Constraint}
+use Rattle.std.specs.Prelude.{◌≡◌, ℕ, suc, Bool, true, false, cond, List, [], ◌∷◌, ◌++◌, ℤ, Ok}
+use Rattle.std.proofs.Common.{sym, ◌∙◌, ap, subst}
 use Rattle.pi_constraints.specs.declared.constraint.Rel.{Rel}
 use Rattle.pi_prop_spec.specs.Operands.{Operand, number, Comparison}
-use Rattle.pi_prop_spec.specs.PostingSums.{Sum, of_number, of_variable, difference}
-use Rattle.pi_prop_spec.specs.Steps.{Made, Known, Reading, gives, then, step, linear, read_operand}
+use Rattle.pi_prop_spec.specs.PostingSums.{Sum, of_number}
+use Rattle.pi_prop_spec.specs.Steps.{Made, Known, gives, then, step, linear, read_operand}
 use Rattle.pi_prop_spec.specs.Relations.{Standing, relation_of, sides_apart, and_apart, read_relation, stands, posts_never, posts_by_terms, posts_standing, posts_relation}
 use Rattle.pi_prop_spec.specs.Says.{AllHold}
 use Rattle.pi_prop_spec.proofs.GrowLemmas.{with_all, hold-first, hold-added, after_is, is_known}
