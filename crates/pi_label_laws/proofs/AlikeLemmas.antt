@@ -1,5 +1,5 @@
 -- The value of an operand goes by those of its variables, also where these are replaced by variables or integers.
-use Rattle.std.specs.Prelude.{◌≡◌, ◌⊎◌, ⊤, ℕ, ℤ, pos, ◌+ℤ◌, ◌-ℤ◌, ◌*ℤ◌, neg_ℤ, Bool, true, false, cond, List, Option, Some, None, option_map, codes, refl}
+use Rattle.std.specs.Prelude.{◌≡◌, ◌⊎◌, ⊤, ℕ, ℤ, ◌+ℤ◌, ◌-ℤ◌, ◌*ℤ◌, neg_ℤ, Bool, true, false, cond, List, Option, Some, None, option_map, codes, refl}
 use Rattle.std.specs.Option.{option_or}
 use Rattle.std.specs.Str.{bytes_eq}
 use Rattle.std.proofs.Common.{sym, ◌∙◌, ap, subst, inl, inr}
@@ -9,7 +9,7 @@ use Rattle.pi_terms.specs.Variables.{Occurs, OccursInAny}
 use Rattle.pi_terms.specs.Substitution.{instance, instances}
 use Rattle.pi_terms.proofs.VariableLemmas.{instance-var}
 use Rattle.pi_prop_spec.specs.Rules.{magnitude}
-use Rattle.pi_prop_spec.specs.Operands.{Operand, plus, minus, times, positive, negative, absolute, total, no_operand, Operands, no_operands, operand}
+use Rattle.pi_prop_spec.specs.Operands.{Operand, plus, minus, times, positive, negative, absolute, no_operand, Operands, no_operands, operand}
 use Rattle.pi_prop_spec.specs.Terms.{total_of, one_part, two_parts, operand_of, operands_of, operands_of_array, operands_of_list}
 use Rattle.pi_prop_spec.specs.Says.{operand_value, total_value}
 

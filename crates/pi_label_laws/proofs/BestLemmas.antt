@@ -120,10 +120,13 @@ record Reaches (p : Solving) (o : Objective) (s : State) (value : List ℤ → �
   best : (d : ℕ) → depth ≤ d → Best p o s value (trace d)
 
 best-same : (p : Solving) (o : Objective) (s : State) (value : List ℤ → ℤ) (t u : Trace State) → end_of t ≡ end_of u → answers t ≡ answers u → Best p o s value u → Best p o s value t
-best-same p o s value t u e same h = (e ∙ h.0, elim h.1 [
-  | inl (none, no_) ↦ inl (same ∙ none, no_)
-  | inr (r, values, is, told, has, best) ↦ inr (r, values, same ∙ is, told, has, best)
-])
+best-same p o s value t u e same h = (
+  e ∙ h.0,
+  elim h.1 [
+    | inl (none, no_) ↦ inl (same ∙ none, no_)
+    | inr (r, values, is, told, has, best) ↦ inr (r, values, same ∙ is, told, has, best)
+  ],
+)
 
 -- a better value is posted and settled
 betters-is : (p : Solving) (o : Objective) (v : ℤ) (s q : State) → p.reading.relation (better_sign o.greatest) o.expression (int v) s ≡ one q → betters p o v s ≡ p.settle s q

@@ -31,3 +31,6 @@ mod AlikeLemmas
 mod OperandPosts
 mod PostSolves
 mod WorthLemmas
+mod PostsMoreLemmas
+mod RelationNews
+mod ReadRightly

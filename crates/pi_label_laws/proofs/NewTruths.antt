@@ -284,6 +284,10 @@ never n = at_most (of_variable n) ∷ at_most (difference (of_number (pos 1)) (o
 not-so : (x : ℤ) → x ≤ℤ pos 0 → (pos 1 -ℤ x) ≤ℤ pos 0 → ⊥
 not-so x h k = omega (arith, ints, h, k)
 
+pub never-false : (n : ℕ) (a : ℕ → ℤ) → Holds (at_most (of_variable n)) a → Holds (at_most (difference (of_number (pos 1)) (of_variable n))) a → ⊥
+never-false n a h k =
+    not-so (a n) (subst (λ (z : ℤ). z ≤ℤ pos 0) (value-of_variable a n) h) (less-says a (of_number (pos 1)) (of_variable n) (pos 1) (a n) (value-of_number a (pos 1)) (value-of_variable a n) k)
+
 pub never-makes : (n : ℕ) → MakesNew n (never n)
 unfolding EachOf
 never-makes n =

@@ -1,6 +1,6 @@
 -- What the reading of an operand by itself posts in a state.
-use Rattle.std.specs.Prelude.{◌≡◌, ◌⊎◌, ℕ, ◌+◌, ◌-◌, ◌<◌, ◌≤◌, ℤ, List, [], ◌∷◌, ◌++◌, Option, Some, None, Contains, Result, Ok, Err, refl}
-use Rattle.std.proofs.Common.{arith, sym, ◌∙◌, ap, subst, inl, inr}
+use Rattle.std.specs.Prelude.{◌≡◌, ℕ, ◌+◌, ◌-◌, ◌<◌, ◌≤◌, List, None, Contains, Ok}
+use Rattle.std.proofs.Common.{arith, sym, subst}
 use Rattle.pi_terms.specs.Tree.{Tree}
 use Rattle.pi_terms.specs.Variables.{Occurs}
 use Rattle.pi_constraints.specs.declared.constraint.Constraint.{Constraint}
@@ -10,16 +10,14 @@ use Rattle.pi_constraints.specs.Value.{value}
 use Rattle.pi_constraints.specs.State.{State, bindings, next, SpeaksBelow, IsState}
 use Rattle.pi_prop_spec.specs.Terms.{operand_of}
 use Rattle.pi_prop_spec.specs.PostingSums.{Sum}
-use Rattle.pi_prop_spec.specs.Steps.{Refusal, Known, read_operand}
+use Rattle.pi_prop_spec.specs.Steps.{Known, read_operand}
 use Rattle.pi_prop_spec.specs.Limits.{first_refusal}
 use Rattle.pi_prop_spec.specs.Says.{operand_value}
-use Rattle.pi_prop_spec.specs.Postings.{Posting, nothing_made, posting_unless, finished}
+use Rattle.pi_prop_spec.specs.Postings.{Posting, nothing_made}
 use Rattle.pi_prop_spec.proofs.GrowLemmas.{AreFormed}
 use Rattle.pi_prop_spec.proofs.LimitLemmas.{all_kept}
 use Rattle.pi_prop_spec.proofs.OperandLemmas.{SumRead, operand-read}
 use Rattle.pi_prop_spec.proofs.TermLemmas.{operand-below}
-use Rattle.pi_settling.specs.Reading.{reads, refuses}
-use Rattle.pi_settling.specs.Read.{operand_as, operand_read, operand_in}
 use Rattle.pi_settling.specs.SettlingLaws.{MaySettle}
 use Rattle.pi_settling.specs.Posted.{posted_in}
 use Rattle.pi_settling.specs.CalmLaws.{MaySettleAfter}
@@ -28,7 +26,7 @@ use Rattle.pi_label_laws.specs.LabelledLaws.{AreAmong}
 use Rattle.pi_label_laws.specs.ReadingLaws.{IsMadeBy}
 use Rattle.pi_label_laws.proofs.NewGoals.{new_variables_of_operands_are_made}
 use Rattle.pi_label_laws.proofs.OperandReads.{operand-reads}
-use Rattle.pi_label_laws.proofs.PostsAfter.{Posts, IsFree, posted-after}
+use Rattle.pi_label_laws.proofs.PostsAfter.{IsFree, posted-after}
 use Rattle.pi_label_laws.proofs.LabelledLemmas.{PostsNew}
 use Rattle.pi_label_laws.proofs.PostedLemmas.{value-below, posted-roots, posted-constraints, posted-made, only-at, IsOf, past-of, value-of}
 

@@ -1,11 +1,10 @@
 -- The solutions of what a posting leaves are those of the state before, extended by values of the new variables under which all holds that is posted.
-use Rattle.std.specs.Prelude.{◌≡◌, ◌⊎◌, ℕ, zero, suc, ◌+◌, ◌<◌, ◌≤◌, ℤ, IsTrue, List, [], ◌∷◌, ◌++◌, length, map, get_or, Some, None, Contains, refl}
+use Rattle.std.specs.Prelude.{◌≡◌, ◌⊎◌, ℕ, suc, ◌<◌, ◌≤◌, ℤ, IsTrue, List, [], ◌∷◌, map, get_or, Some, Contains, refl}
 use Rattle.std.proofs.Common.{arith, sym, ◌∙◌, ap, subst, inl, inr}
 use Rattle.std.proofs.lemmas.Int.{ints}
 use Rattle.std.proofs.lemmas.List.Elements.{Contains-append_left, Contains-append_right, Contains-append_cases}
 use Rattle.pi_terms.specs.Tree.{Tree, var, int, atom, comp}
 use Rattle.pi_terms.specs.Variables.{Occurs}
-use Rattle.pi_terms.specs.Places.{held}
 use Rattle.pi_constraints.specs.declared.constraint.Constraint.{Constraint}
 use Rattle.pi_constraints.specs.declared.constraint.Item.{Item}
 use Rattle.pi_constraints.specs.declared.domain.Span.{Span}
@@ -18,7 +17,7 @@ use Rattle.pi_prop_spec.specs.Places.{places_of}
 use Rattle.pi_prop_spec.specs.Solutions.{value_of, Holds}
 use Rattle.pi_prop_spec.specs.Says.{AgreeBelow}
 use Rattle.pi_prop_spec.specs.Postings.{Posting}
-use Rattle.pi_settling.specs.Roots.{root_item, item_of, all_values, domain_or_all, given, Counts, by_domain, by_place}
+use Rattle.pi_settling.specs.Roots.{root_item, item_of, all_values, domain_or_all, given, Counts, by_domain}
 use Rattle.pi_settling.specs.Solves.{Solves}
 use Rattle.pi_settling.specs.SettlingLaws.{MaySettle}
 use Rattle.pi_settling.specs.Confined.{with_default, confined_at, confined}

@@ -25,7 +25,7 @@ use Rattle.pi_settling.proofs.TwiceLemmas.{past_free, unbound-root}
 use Rattle.pi_settling.proofs.UniqueLemmas.{domain_made}
 use Rattle.pi_settling.proofs.ConfinedLemmas.{one-next, root-same, confining_binds_nothing}
 use Rattle.pi_settling.proofs.CalmItems.{news-like}
-use Rattle.pi_settling.proofs.CalmFollowed.{with-variables}
+use Rattle.pi_settling.proofs.CalmFollowed.{news-held, with-variables}
 use Rattle.pi_settling.proofs.CalmLemmas.{without_constraints_is_calm, calm_is_stable}
 use Rattle.pi_settling.proofs.CalmPosted.{posted_may_settle}
 use Rattle.pi_settling.proofs.CalmReads.{ItemOnly, PlacesOnly, Each, AllOnly}
@@ -81,6 +81,12 @@ pub posted-constraints : (s : State) (p : Posting) → IsState s → (posted_in 
 posted-constraints s p is =
     let q : State = with_new_variables p.fresh s in
     confined-constraints (places_of_all p.list) (with_constraints p.list q) ∙ (with-list p.list q ∙ ap (λ (cs : List Constraint). cs ++ p.list) (news-like p.fresh s is).constraints)
+
+pub posted-held : (s : State) (p : Posting) (n : ℕ) → held (bindings (posted_in s p)) n ≡ held (bindings s) n
+posted-held s p n =
+    let q : State = with_new_variables p.fresh s in
+    let c : State = with_constraints p.list q in
+    ap (λ (b : Bindings). held b n) (confining_binds_nothing c (places_of_all p.list)) ∙ (ap (λ vs. held (map binding vs) n) (with-variables p.list q) ∙ news-held p.fresh s n)
 
 -- ---- the variables of what is posted
 

@@ -49,7 +49,7 @@ AllGood s items = (x : Item) → Contains items x → IsGood s x
 same-kept : (s q : State) → ((n : ℕ) → held (bindings q) n ≡ held (bindings s) n) → Kept (bindings s) (bindings q)
 same-kept s q same n u e = same n ∙ e
 
-good-same : (s q : State) → IsState s → IsState q → next s ≤ next q → ((n : ℕ) → held (bindings q) n ≡ held (bindings s) n) → (x : Item) → IsGood s x → IsGood q x
+pub good-same : (s q : State) → IsState s → IsState q → next s ≤ next q → ((n : ℕ) → held (bindings q) n ≡ held (bindings s) n) → (x : Item) → IsGood s x → IsGood q x
 good-same s q is is' more same x good =
     let root : root_item q (root_item s x) ≡ root_item q x =
     root_later s q is.acyclic is'.acyclic (same-kept s q same) (λ n none. item_by (bindings q) n is'.acyclic (inl (same n ∙ none))) x in
@@ -98,11 +98,11 @@ variable-before q r is is' f x v (inl (w, e, l, none)) at =
 -- ---- values within the bounds
 
 -- of an item that comes out as a variable, in a solution
-out-bounded : (s : State) (a : ℕ → ℤ) (x : Item) (v : ℕ) → Solves s a → ComesOut s x → root_item s x ≡ Item.Var v → IsWithinBounds (a v)
+pub out-bounded : (s : State) (a : ℕ → ℤ) (x : Item) (v : ℕ) → Solves s a → ComesOut s x → root_item s x ≡ Item.Var v → IsWithinBounds (a v)
 out-bounded s a x v h (inl (w, e, dom)) at = h.bounded (Item.Var v) (by_domain v dom.0 refl (ap (domain_of s) (same-number v w (sym at ∙ e)) ∙ dom.1))
 out-bounded s a x v h (inr (i, e)) at = absurd cc
 
-root-confined : (s : State) (items : List Item) (y : Item) → root_item (confined s items) y ≡ root_item s y
+pub root-confined : (s : State) (items : List Item) (y : Item) → root_item (confined s items) y ≡ root_item s y
 root-confined s items y = root-same s (confined s items) (confining_binds_nothing s items) y
 
 -- solutions of what is confined before are solutions of what is confined in the stable state

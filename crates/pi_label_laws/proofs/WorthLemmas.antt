@@ -1,14 +1,13 @@
 -- The value that an expression has by an assignment, and in a state where the items come to that.
-use Rattle.std.specs.Prelude.{◌≡◌, ◌⊎◌, ℕ, zero, suc, ◌==◌, ◌<◌, ℤ, pos, ◌+ℤ◌, Bool, true, false, cond, List, [], ◌∷◌, length, map, Option, Some, None, Contains, Result, Ok, Err, refl}
+use Rattle.std.specs.Prelude.{◌≡◌, ◌⊎◌, ℕ, zero, suc, ◌==◌, ℤ, pos, ◌+ℤ◌, Bool, true, false, cond, List, [], ◌∷◌, map, Some, None, Contains, Result, Ok, Err, refl}
 use Rattle.std.proofs.Common.{arith, tests, eqb-true, sym, ◌∙◌, ap, subst, inl, inr}
-use Rattle.std.proofs.lemmas.Bool.{cases_Bool}
 use Rattle.std.proofs.lemmas.Int.{ints}
-use Rattle.pi_terms.specs.Tree.{Tree, var, int, atom, comp, Trees}
+use Rattle.pi_terms.specs.Tree.{Tree, var, int, atom, comp}
 use Rattle.pi_terms.specs.Variables.{Occurs}
 use Rattle.pi_terms.specs.Places.{held}
 use Rattle.pi_terms.specs.Substitution.{instance}
 use Rattle.pi_constraints.specs.declared.constraint.Item.{Item}
-use Rattle.pi_constraints.specs.Value.{Bindings, value}
+use Rattle.pi_constraints.specs.Value.{value}
 use Rattle.pi_constraints.specs.State.{State, bindings, next, followed, SpeaksBelow, IsState}
 use Rattle.pi_constraints.proofs.FollowLemmas.{followed_value, followed_unbound}
 use Rattle.pi_constraints.proofs.ValueLemmas.{occurs_in_instance, value_goes_by_variables, unbound_is_its_own_value}
@@ -17,12 +16,11 @@ use Rattle.pi_prop_spec.specs.Terms.{operand_of}
 use Rattle.pi_prop_spec.specs.PostingSums.{sum_value}
 use Rattle.pi_prop_spec.specs.PostingSums as Sums
 use Rattle.pi_prop_spec.specs.Steps.{Refusal, Known, read_operand}
-use Rattle.pi_prop_spec.specs.Says.{operand_value, AllHold, AgreeBelow}
+use Rattle.pi_prop_spec.specs.Says.{operand_value}
 use Rattle.pi_prop_spec.specs.Postings.{Posting, nothing_made, finished}
 use Rattle.pi_prop_spec.proofs.PostingLemmas.{operands_have_their_values}
 use Rattle.pi_settling.specs.Roots.{root_item, item_of}
 use Rattle.pi_settling.specs.Settle.{is_variable}
-use Rattle.pi_settling.specs.Options.{Objective}
 use Rattle.pi_settling.specs.Reading.{Operand, reads, refuses, constant_of}
 use Rattle.pi_settling.specs.Reading as Readings
 use Rattle.pi_settling.specs.Read.{operand_as, operand_read, operand_in}
@@ -30,7 +28,7 @@ use Rattle.pi_settling.proofs.RootLemmas.{root-by_value, value_later}
 use Rattle.pi_label_laws.specs.LabelledLaws.{AreAmong}
 use Rattle.pi_label_laws.specs.SolutionLaws.{AreTold}
 use Rattle.pi_label_laws.specs.ObjectiveLaws.{value_by, expression_value}
-use Rattle.pi_label_laws.proofs.AlikeLemmas.{Put, instance-same}
+use Rattle.pi_label_laws.proofs.AlikeLemmas.{instance-same}
 use Rattle.pi_label_laws.proofs.LabelledLemmas.{same-number}
 use Rattle.pi_label_laws.proofs.PickLemmas.{told_value, told-is, told_values, value-told}
 

@@ -1,6 +1,6 @@
 //! Laws of labelling.
 ghost use Rattle.pi_label_laws.specs.LabelledLaws.{PostingsMayBeLabelled, WithoutConstraintsMayBeLabelled};
-ghost use Rattle.pi_label_laws.specs.ObjectiveLaws.{ObjectiveGivesTheBest};
+ghost use Rattle.pi_label_laws.specs.ObjectiveLaws.{ObjectiveGivesTheBest, ReadingIsRight, SolveGivesTheBest};
 ghost use Rattle.pi_label_laws.specs.ReadingLaws.{NewVariablesAreMade, NewVariablesOfOperandsAreMade};
 ghost use Rattle.pi_label_laws.specs.SolutionLaws.{LabellingGivesTheSolutions, SolveGivesTheSolutions};
 
@@ -11,10 +11,13 @@ pub fn labelling_gives_the_solutions()
     ensures solve { SolveGivesTheSolutions }
 {}
 
-/// With an objective whose expression is read rightly the one answer is a best of these assignments, and there is none exactly where
-/// there are no assignments.
+/// With an objective whose expression is read rightly, and where nothing is raised, the one answer is a best of these assignments, and
+/// there is none exactly where there are no assignments. Constraints are read rightly where the expression's variables are among those of
+/// the call and the values of its new variables lie within the bounds.
 pub fn an_objective_gives_the_best()
-    ensures { ObjectiveGivesTheBest }
+    ensures objective { ObjectiveGivesTheBest }
+    ensures reading { ReadingIsRight }
+    ensures solve { SolveGivesTheBest }
 {}
 
 /// The value of each new variable of a posting is made by what is posted, out of those of variables with lower numbers.
