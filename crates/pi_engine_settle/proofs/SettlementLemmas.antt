@@ -83,11 +83,11 @@ none-due before s calm f is h =
     let parts : _ = passed-both (length before.constraints == length s.constraints) (are_unchanged before.variables s.variables) h in
     let many : length before.constraints ≡ length s.constraints = grind (arith, nat_tests, parts.0) in
     let never : (i : ℕ) → IsDueAt before s 0 s.constraints i → ⊥ = λ i at.
-        let l : at.place < length s.constraints = slice_get_within s.constraints at.place at.constraint at.there in
-        let no : is_due before s at.place at.constraint ≡ false = not-due-now before s many parts.1 at.place l at.constraint in
-        let same : i ≡ at.place = omega (arith, at.number) in
-        let yes : is_due before s at.place at.constraint ≡ true = subst (λ (k : ℕ). is_due before s k at.constraint ≡ true) same at.is in
-        let both : true ≡ false = sym yes ∙ no in cc in
+    let l : at.place < length s.constraints = slice_get_within s.constraints at.place at.constraint at.there in
+    let no : is_due before s at.place at.constraint ≡ false = not-due-now before s many parts.1 at.place l at.constraint in
+    let same : i ≡ at.place = omega (arith, at.number) in
+    let yes : is_due before s at.place at.constraint ≡ true = subst (λ (k : ℕ). is_due before s k at.constraint ≡ true) same at.is in
+    let both : true ≡ false = sym yes ∙ no in cc in
     due-for before s [] calm f is none-differ (λ i.
     ((λ there. absurd (none-there i there)), (λ either. absurd (elim either [ inl old ↦ never i (old-due before s i calm f old) | inr new ↦ never i (new-due before s i new) ]))))
 
