@@ -31,11 +31,11 @@ FlatGood s (no_item t) = ⊤
 
 -- ---- the items of lists and arrays are parts of them
 
-unfoldable EachBelow : ℕ → List Tree → Type 0
+unfoldable pub EachBelow : ℕ → List Tree → Type 0
 EachBelow n [] = ⊤
 EachBelow n (t ∷ ts) = SpeaksBelow n t × EachBelow n ts
 
-abbrev SomeBelow : ℕ → Option (List Tree) → Type 0
+abbrev pub SomeBelow : ℕ → Option (List Tree) → Type 0
 SomeBelow n None = ⊤
 SomeBelow n (Some ts) = EachBelow n ts
 
@@ -73,7 +73,7 @@ root-below n items (comp name (tree t (tree u (tree w ts)))) rest h = tt
 pub below-followed : (s : State) (t : Tree) → IsState s → SpeaksBelow (next s) t → SpeaksBelow (next s) (followed (bindings s) t)
 below-followed s t is h = followed_below (next s) (bindings s) t (λ n u e. bound_below s n u is e) h
 
-list-below : (s : State) (k : ℕ) (t : Tree) → IsState s → SpeaksBelow (next s) t → SomeBelow (next s) (items_for k (bindings s) t)
+pub list-below : (s : State) (k : ℕ) (t : Tree) → IsState s → SpeaksBelow (next s) t → SomeBelow (next s) (items_for k (bindings s) t)
 unfolding items_for
 list-below s zero t is h = tt
 list-below s (suc k) t is h = root-below (next s) (items_for k (bindings s)) (followed (bindings s) t) (λ u below. list-below s k u is below) (below-followed s t is h)

@@ -34,3 +34,4 @@ mod WorthLemmas
 mod PostsMoreLemmas
 mod RelationNews
 mod ReadRightly
+mod WordLemmas

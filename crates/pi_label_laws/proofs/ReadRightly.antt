@@ -47,6 +47,7 @@ use Rattle.pi_label_laws.proofs.PostedLemmas.{value-below, posted-made, goal-pos
 use Rattle.pi_label_laws.proofs.PostsMoreLemmas.{posts-more}
 use Rattle.pi_label_laws.proofs.RelationNews.{OperandFirst, relation-operand}
 use Rattle.pi_label_laws.proofs.RoundLemmas.{AllGood}
+use Rattle.pi_label_laws.proofs.WordLemmas.{expression-below}
 use Rattle.pi_label_laws.proofs.WorthLemmas.{value-found, worth-of}
 
 -- an expression over the items of a call
@@ -223,6 +224,7 @@ reading_is_right drains chosen items o s words vars asks below under m among fit
     }
 
 pub solve_gives_the_best : SolveGivesTheBest
-solve_gives_the_best drains chosen items o s words vars asks has below under runs m among fits silent =
+solve_gives_the_best drains chosen items o s words vars asks has words_below below runs m among fits silent =
+    let under : SpeaksBelow (next s) o.expression = expression-below s words vars chosen items o m.state words_below asks has in
     objective_gives_the_best (call_of drains chosen items) o s words vars (expression_value s items o.expression) asks has below settled_settles runs m
     (reading_is_right drains chosen items o s words vars asks below under m among fits) silent

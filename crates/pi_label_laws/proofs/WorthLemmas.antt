@@ -147,9 +147,13 @@ variable-value s r items values n is is' kept told x at root =
 zero-more : (x : ℤ) → (x +ℤ pos 0) ≡ x
 zero-more x = omega (arith, ints)
 
+constant-sum : (a : ℕ → ℤ) (u : Sums.Sum) → u.terms ≡ [] → u.constant ≡ sum_value a u
+unfolding sum_of
+constant-sum a u none = sym (ap (λ ts. u.constant +ℤ sum_of a ts) none ∙ zero-more u.constant)
+
 by-reading : (s r : State) (items : List Item) (values : List ℤ) (t : Tree) (k : Known Sums.Sum) → IsState s → IsState r → ((k : ℕ) (u : Tree) → held (bindings s) k ≡ Some u → held (bindings r) k ≡ Some u) → AreAmong s items t →
     AreTold items r values → read_operand (operand_of (value (bindings r) t)) (nothing_made (next r)) ≡ Ok k → k.what.terms ≡ [] → k.what.constant ≡ expression_value s items t values
-unfolding sum_of Occurs
+unfolding Occurs
 by-reading s r items values t k is is' kept among told e none =
     let u : Tree = value (bindings s) t in
     let put : ℕ → Tree = λ n. value (bindings r) (var n) in
@@ -160,7 +164,7 @@ by-reading s r items values t k is is' kept among told e none =
     let law = operands_have_their_values (next r) (value (bindings r) t) k below e in
     let b = law.1 (λ n. pos 0) in
     let sum : sum_value b.0 k.what ≡ operand_value b.0 (operand_of (value (bindings r) t)) = law.0 b.0 b.2 in
-    let constant : k.what.constant ≡ sum_value b.0 k.what = sym (ap (λ ts. k.what.constant +ℤ sum_of b.0 ts) none ∙ zero-more k.what.constant) in
+    let constant : k.what.constant ≡ sum_value b.0 k.what = constant-sum b.0 k.what none in
     let same : operand_value b.0 (operand_of (instance put u)) ≡ operand_value (value_by s items values) (operand_of u) = instance-same put b.0 (value_by s items values) u (λ n o. inr (value_by s items values n, var_is n o, refl)) in
     constant ∙ (sum ∙ (ap (λ (w : Tree). operand_value b.0 (operand_of w)) later ∙ same))
 

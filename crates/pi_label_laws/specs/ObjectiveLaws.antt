@@ -98,5 +98,5 @@ ReadingIsRight = (drains : ℕ → State → Trace State) (chosen : Options) (it
 -- So the one answer is an assignment that gives the expression a best value, and there is none exactly where there is no assignment.
 abbrev pub SolveGivesTheBest : Type 0
 SolveGivesTheBest = (drains : ℕ → State → Trace State) (chosen : Options) (items : List Item) (o : Objective) (s : State) (words vars : Tree) → asked s words vars ≡ labels chosen items → chosen.objective ≡ Some o →
-    SpeaksBelow (next s) vars → SpeaksBelow (next s) o.expression → RunsWhatWaits drains → MayLabel s items → AreAmong s items o.expression → NewValuesFit s items o.expression → NothingIsRaised (call_of drains chosen items) s →
+    SpeaksBelow (next s) words → SpeaksBelow (next s) vars → RunsWhatWaits drains → MayLabel s items → AreAmong s items o.expression → NewValuesFit s items o.expression → NothingIsRaised (call_of drains chosen items) s →
     (d : ℕ) × (end_of (solved (call_of drains chosen items) d s) ≡ Done) × IsBestAnswer items o s (expression_value s items o.expression) (solved (call_of drains chosen items) d s)

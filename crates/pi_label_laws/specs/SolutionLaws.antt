@@ -1,5 +1,5 @@
 -- Labelling gives exactly the solutions: what is promised of its answers. (Own.)
-use Rattle.std.specs.Prelude.{◌≡◌, ◌≢◌, ℕ, ℤ, List, [], map, None}
+use Rattle.std.specs.Prelude.{◌≡◌, ◌≢◌, ℕ, ℤ, List, [], map, Option, None}
 use Rattle.pi_terms.specs.Tree.{Tree}
 use Rattle.pi_constraints.specs.declared.constraint.Item.{Item}
 use Rattle.pi_traces.specs.Trace.{Trace, Done, one, answers, end_of}
@@ -9,6 +9,7 @@ use Rattle.pi_settling.specs.SettlingLaws.{Settles}
 use Rattle.pi_settling.specs.Settle.{settled}
 use Rattle.pi_settling.specs.Options.{Options, VariableWord, forward, backward, ff, ValueWord, up, down, split, reverse_split}
 use Rattle.pi_settling.specs.Confined.{confined}
+use Rattle.pi_settling.specs.Drain.{Lower, drained}
 use Rattle.pi_settling.specs.Asked.{asked, labels}
 use Rattle.pi_settling.specs.Reading.{Solving}
 use Rattle.pi_settling.specs.Read.{constraints_read}
@@ -19,6 +20,10 @@ use Rattle.pi_label_laws.specs.Made.{MayLabel}
 -- what runs what waits does nothing where nothing waits
 abbrev pub RunsWhatWaits : (ℕ → State → Trace State) → Type 0
 RunsWhatWaits drains = (d : ℕ) (s : State) → s.waiting ≡ [] → drains d s ≡ one s
+
+-- draining is so, whatever lower depths do
+abbrev pub DrainingRunsWhatWaits : Type 0 → Type 0
+DrainingRunsWhatWaits X = (lower : ℕ → Option (Lower X)) → RunsWhatWaits (λ d s. drained (lower d) s)
 
 -- the items come to these integers in a state
 abbrev pub AreTold : List Item → State → List ℤ → Type 0

@@ -2,13 +2,18 @@
 ghost use Rattle.pi_label_laws.specs.LabelledLaws.{PostingsMayBeLabelled, WithoutConstraintsMayBeLabelled};
 ghost use Rattle.pi_label_laws.specs.ObjectiveLaws.{ObjectiveGivesTheBest, ReadingIsRight, SolveGivesTheBest};
 ghost use Rattle.pi_label_laws.specs.ReadingLaws.{NewVariablesAreMade, NewVariablesOfOperandsAreMade};
-ghost use Rattle.pi_label_laws.specs.SolutionLaws.{LabellingGivesTheSolutions, SolveGivesTheSolutions};
+ghost use Rattle.pi_label_laws.specs.SolutionLaws.{DrainingRunsWhatWaits, LabellingGivesTheSolutions, SolveGivesTheSolutions};
 
 /// Without an objective the answers are exactly the assignments of the call's variables that extend to a solution of all that is
 /// posted, each once, in the order of the options: by any way to settle, and so by the one that is computed.
 pub fn labelling_gives_the_solutions()
     ensures labelling { LabellingGivesTheSolutions }
     ensures solve { SolveGivesTheSolutions }
+{}
+
+/// Draining is what these laws ask of what runs what waits.
+pub fn draining_runs_what_waits<X>()
+    ensures { DrainingRunsWhatWaits X }
 {}
 
 /// With an objective whose expression is read rightly, and where nothing is raised, the one answer is a best of these assignments, and
