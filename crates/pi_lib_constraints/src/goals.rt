@@ -1,0 +1,88 @@
+//! Calls of goals of constraints.
+ghost use Rattle.std.specs.Prelude.{◌≡◌, Some, codes, length};
+ghost use Rattle.pi_terms.specs.Tree.{Tree, Trees, comp, no_trees, tree};
+ghost use Rattle.pi_constraints.specs.State.{IsState};
+ghost use Rattle.pi_constraints.specs.Store.{IsTerm, AreTerms, Keeps};
+ghost use Rattle.pi_effects.specs.Effect.{Effect};
+ghost use Rattle.pi_lib.specs.Outcomes.{ShowsOutcome};
+ghost use Rattle.pi_settling.specs.Posted.{posting_goal};
+ghost use Rattle.pi_lib_constraints.specs.Names.{one_name, comparison_name, connective_name};
+
+use crate::kinds::GoalOfOne;
+use crate::posting::post;
+use pi_constraints::{Ref, StoredDomains};
+use pi_effects::Stop;
+use pi_lib::Outcome;
+use pi_prop_read::{Comparison, Connective, PostingGoal};
+use std::alloc::Global;
+
+/// A call of a goal with one argument.
+fn call_of_one<S: StoredDomains>(
+    alloc: Global,
+    s: &mut S,
+    goal: GoalOfOne,
+    a: Ref,
+) -> Result<Outcome, Stop>
+    ensures keeps { Keeps (S.seen s.old) (S.seen s.new) }
+    ensures shows { (t : Tree) → IsState (S.seen s.old).now.state → IsTerm (S.seen s.old) a t →
+        ShowsOutcome (S.seen s.old) (S.seen s.new) result
+        (posting_goal (S.seen s.old).now.state (comp (one_name goal) (tree t no_trees))) }
+{
+    let _root = s.look(a);
+    match goal {
+        GoalOfOne::Negation => post(alloc, s, PostingGoal::Negation(a)),
+        GoalOfOne::Different => post(alloc, s, PostingGoal::Different(a)),
+        GoalOfOne::Distinct => post(alloc, s, PostingGoal::Distinct(a)),
+    }
+}
+
+/// A relation of two operands.
+fn relate<S: StoredDomains>(
+    alloc: Global,
+    s: &mut S,
+    comparison: Comparison,
+    a: Ref,
+    b: Ref,
+) -> Result<Outcome, Stop>
+    ensures keeps { Keeps (S.seen s.old) (S.seen s.new) }
+    ensures shows { (t u : Tree) → IsState (S.seen s.old).now.state → IsTerm (S.seen s.old) a t →
+        IsTerm (S.seen s.old) b u → ShowsOutcome (S.seen s.old) (S.seen s.new) result
+        (posting_goal (S.seen s.old).now.state (comp (comparison_name comparison) (tree t (tree u no_trees)))) }
+{
+    let _root = s.look(a);
+    post(alloc, s, PostingGoal::Relation(comparison, a, b))
+}
+
+/// Two Boolean expressions that are joined.
+fn join<S: StoredDomains>(
+    alloc: Global,
+    s: &mut S,
+    connective: Connective,
+    a: Ref,
+    b: Ref,
+) -> Result<Outcome, Stop>
+    ensures keeps { Keeps (S.seen s.old) (S.seen s.new) }
+    ensures shows { (t u : Tree) → IsState (S.seen s.old).now.state → IsTerm (S.seen s.old) a t →
+        IsTerm (S.seen s.old) b u → ShowsOutcome (S.seen s.old) (S.seen s.new) result
+        (posting_goal (S.seen s.old).now.state (comp (connective_name connective) (tree t (tree u no_trees)))) }
+{
+    let _root = s.look(a);
+    post(alloc, s, PostingGoal::Joined(connective, a, b))
+}
+
+/// `element`: the index, the items, the value.
+fn call_of_element<S: StoredDomains>(
+    alloc: Global,
+    s: &mut S,
+    index: Ref,
+    items: Ref,
+    value: Ref,
+) -> Result<Outcome, Stop>
+    ensures keeps { Keeps (S.seen s.old) (S.seen s.new) }
+    ensures shows { (t u w : Tree) → IsState (S.seen s.old).now.state → IsTerm (S.seen s.old) index t →
+        IsTerm (S.seen s.old) items u → IsTerm (S.seen s.old) value w → ShowsOutcome (S.seen s.old) (S.seen s.new) result
+        (posting_goal (S.seen s.old).now.state (comp (codes "element") (tree t (tree u (tree w no_trees))))) }
+{
+    let _root = s.look(index);
+    post(alloc, s, PostingGoal::Element(index, items, value))
+}
