@@ -1,2 +1,4 @@
 pub mod PostLemmas
 pub mod GoalLemmas
+pub mod KeepLemmas
+pub mod LeafLemmas

@@ -1,2 +1,4 @@
 pub mod Names
 pub mod Posts
+pub mod Kept
+pub mod Flattened

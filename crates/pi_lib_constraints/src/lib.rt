@@ -2,8 +2,14 @@
 #![tactic(auto)]
 
 mod arguments;
+mod defaults;
 mod goals;
+mod keeping;
 mod kinds;
+mod leaves;
 mod posting;
+
+
+
 
 pub use kinds::{ConstraintGoal, GoalOfOne, GoalOfTwo};

@@ -17,7 +17,8 @@ ghost use Rattle.pi_settling.specs.Roots.{root_item, all_values};
 ghost use Rattle.pi_lib.specs.Outcomes.{ShowsOutcome};
 ghost use Rattle.pi_lib_constraints.specs.Posts.{fault_of, MayPostAll};
 
-use pi_constraints::{Cell, Constraint, Domain, Item, MAX_VALUE, Ref, Span, StateStore, StoredDomains};
+use crate::defaults::default_domain;
+use pi_constraints::{Cell, Constraint, Domain, Item, Ref, StateStore, StoredDomains};
 use pi_effects::{Fault, Stop};
 use pi_lib::Outcome;
 use pi_prop_filters::places;
@@ -98,18 +99,6 @@ fn post_all<S: StateStore>(s: &mut S, constraints: &[Constraint]) -> Result<(), 
         s.post(&constraints[k])?;
     }
     Ok(())
-}
-
-/// All values that a domain can have.
-fn default_domain(alloc: Global) -> Result<Domain, AllocError>
-    ensures { IfOk result (λ made. made ≡ all_values) }
-{
-    let mut spans = Vec::new(alloc);
-    spans.push(Span {
-        lo: -MAX_VALUE,
-        hi: MAX_VALUE,
-    })?;
-    Ok(Domain::new(spans))
 }
 
 /// Gives the variables of constraints that have no domain the default one.
