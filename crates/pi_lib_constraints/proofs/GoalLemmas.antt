@@ -1,7 +1,7 @@
 -- Which goal a name with arguments is.
 use Rattle.std.specs.Prelude.{◌≡◌, ℕ, List, Result, codes, refl}
 use Rattle.std.proofs.Common.{◌∙◌, ap, sym, subst}
-use Rattle.pi_terms.specs.Tree.{Tree, Trees, comp, no_trees, tree}
+use Rattle.pi_terms.specs.Tree.{Tree, comp, no_trees, tree}
 use Rattle.pi_terms.specs.Substitution.{instance}
 use Rattle.pi_constraints.specs.State.{IsState, SpeaksBelow, bindings, next}
 use Rattle.pi_constraints.specs.Store.{Moment, StoreView, IsTerm}
@@ -14,11 +14,9 @@ use Rattle.pi_prop_read.specs.declared.called.PostingGoal.{PostingGoal}
 use Rattle.pi_prop_read.specs.declared.relations.Comparison.{Comparison}
 use Rattle.pi_prop_read.specs.declared.truths.nodes.Connective.{Connective}
 use Rattle.pi_prop_read.specs.Called.{goal_as, HasParts}
-use Rattle.pi_prop_read.specs.Refs.{value_at, operand_at}
-use Rattle.pi_prop_read.specs.Relations.{comparison_of}
-use Rattle.pi_prop_read.specs.TruthNodes.{connective_of, boolean_at}
+use Rattle.pi_prop_read.specs.Refs.{value_at}
 use Rattle.pi_prop_read.proofs.RootLemmas.{value_is, there}
-use Rattle.pi_prop_spec.specs.Terms.{goal_of, boolean_of, operand_of, comparison_named, connective_named}
+use Rattle.pi_prop_spec.specs.Terms.{goal_of, boolean_of, comparison_named, connective_named}
 use Rattle.pi_effects.specs.declared.fault.Stop.{Stop}
 use Rattle.pi_lib.specs.Outcomes.{ShowsOutcome}
 use Rattle.pi_lib.specs.declared.predicates.Outcome.{Outcome}
@@ -35,7 +33,7 @@ one-value : (b : Bindings) (name : List ℕ) (t : Tree) → value b (comp name (
 unfolding instance
 one-value b name t = value_comp b name (tree t no_trees) ∙ ap (λ (x : Tree). comp name (tree x no_trees)) (sym (value_goes_by_variables b t))
 
-two-value : (b : Bindings) (name : List ℕ) (t u : Tree) → value b (comp name (tree t (tree u no_trees))) ≡ comp name (tree (value b t) (tree (value b u) no_trees))
+pub two-value : (b : Bindings) (name : List ℕ) (t u : Tree) → value b (comp name (tree t (tree u no_trees))) ≡ comp name (tree (value b t) (tree (value b u) no_trees))
 unfolding instance
 two-value b name t u =
     value_comp b name (tree t (tree u no_trees))
@@ -100,10 +98,10 @@ joined-is Connective.Implies w a b = refl
 joined-is Connective.Equivalent w a b = refl
 
 pub relation-posts : {M : Type 0} (v : StoreView M) (c : Comparison) (a b : Ref) (t u : Tree) → IsState v.now.state → AllBelow v → IsTerm v a t → IsTerm v b u → Posts v (PostingGoal.Relation c a b) (comp (comparison_name c) (tree t (tree u no_trees)))
-relation-posts v c a b t u is all at too = record { state = is; below = two-below v (comparison_name c) a b t u all at too; same = two-are v (comparison_name c) a b t u at too ∙ relation-is c v.now a b; }
+relation-posts v c a b t u is all at too = record { state = is; below = two-below v (comparison_name c) a b t u all at too; same = two-are v (comparison_name c) a b t u at too ∙ relation-is c v.now a b }
 
 pub joined-posts : {M : Type 0} (v : StoreView M) (k : Connective) (a b : Ref) (t u : Tree) → IsState v.now.state → AllBelow v → IsTerm v a t → IsTerm v b u → Posts v (PostingGoal.Joined k a b) (comp (connective_name k) (tree t (tree u no_trees)))
-joined-posts v k a b t u is all at too = record { state = is; below = two-below v (connective_name k) a b t u all at too; same = two-are v (connective_name k) a b t u at too ∙ joined-is k v.now a b; }
+joined-posts v k a b t u is all at too = record { state = is; below = two-below v (connective_name k) a b t u all at too; same = two-are v (connective_name k) a b t u at too ∙ joined-is k v.now a b }
 
 -- ---- with three
 

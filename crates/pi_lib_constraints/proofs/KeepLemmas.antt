@@ -1,5 +1,5 @@
 -- What an item is left, and what items are left one after the other.
-use Rattle.std.specs.Prelude.{◌≡◌, ℕ, zero, suc, ◌<◌, ◌≤◌, ◌+◌, ℤ, pos, Bool, true, false, not, IsTrue, List, [], ◌∷◌, length, drop, get_or, Option, Some, None, option_and_then, refl}
+use Rattle.std.specs.Prelude.{◌≡◌, ℕ, zero, suc, ◌<◌, ◌≤◌, ◌+◌, ℤ, pos, Bool, true, false, IsTrue, List, [], ◌∷◌, length, drop, get_or, Option, Some, None, option_and_then, refl}
 use Rattle.std.proofs.Common.{arith, sym, ◌∙◌, ap, subst}
 use Rattle.pi_terms.specs.Tree.{Tree, var, int, atom, comp, args}
 use Rattle.pi_terms.specs.Places.{held}
@@ -8,10 +8,10 @@ use Rattle.pi_constraints.specs.declared.constraint.Item.{Item}
 use Rattle.pi_constraints.specs.declared.domain.Span.{Span}
 use Rattle.pi_constraints.specs.declared.store.Ref.{Ref}
 use Rattle.pi_constraints.specs.declared.store.Cell.{Cell}
-use Rattle.pi_constraints.specs.Domain.{IsDomain, IsLeastValue, has_value, values_of, size_of, common}
-use Rattle.pi_constraints.specs.State.{State, IsState, IsUnbound, Variable, within, bound, bindings, next, domain_of, domain_at_root, followed, with_binding, with_domain, SpeaksBelow}
+use Rattle.pi_constraints.specs.Domain.{IsDomain, has_value, values_of, size_of, common}
+use Rattle.pi_constraints.specs.State.{State, IsState, within, bound, bindings, next, domain_of, domain_at_root, followed, with_binding, with_domain, SpeaksBelow}
 use Rattle.pi_constraints.specs.Store.{StoreView, IsTerm, Keeps, Binds, Confines, Gives, ShowsCell}
-use Rattle.pi_constraints.specs.Value.{Bindings, IsAcyclic, MayBind, value}
+use Rattle.pi_constraints.specs.Value.{Bindings, MayBind, value}
 use Rattle.pi_constraints.proofs.CommonLemmas.{IsDomain-common, no_value, first_value, one_value, two_values}
 use Rattle.pi_constraints.proofs.DomainLemmas.{not_both, values_are_within_bounds}
 use Rattle.pi_constraints.proofs.FollowLemmas.{followed_itself, followed_unbound, followed_below, followed_other}
@@ -22,7 +22,7 @@ use Rattle.pi_settling.specs.Roots.{item_of, root_item, domain_or_all, given, al
 use Rattle.pi_settling.specs.Within.{unless_bound, kept_in, only_where, item_in, item_not_in, each_item}
 use Rattle.pi_settling.specs.Values.{all_but}
 use Rattle.pi_settling.proofs.TwiceLemmas.{all-domain}
-use Rattle.pi_settling.proofs.CalmGoals.{IsFixed, left_with, fixed_to, fixed-keeps-state}
+use Rattle.pi_settling.proofs.CalmGoals.{left_with, fixed_to, fixed-keeps-state}
 use Rattle.pi_lib_constraints.specs.Kept.{item_term, AreRefsOf, as_wanted, item_kept, IsLeft, LeadsToVariable}
 use Rattle.pi_lib_constraints.proofs.GoalLemmas.{AllBelow}
 
@@ -92,10 +92,10 @@ pub record ItemAt {M : Type 0} (v : StoreView M) (xs : List Item) (k : ℕ) (r :
 pub item-at : {M : Type 0} (v : StoreView M) (rs : List Ref) (xs : List Item) (k : ℕ) (r : Ref) → AreRefsOf v rs xs → k < length rs → r ≡ get_or rs k r → ItemAt v xs k r
 item-at v [] xs k r h low e = absurd (omega (arith, low))
 item-at v (q ∷ rs) [] k r h low e = absurd h
-item-at v (q ∷ rs) (x ∷ xs) zero r h low e = record { it = x; is = subst (λ (p : Ref). IsTerm v p (item_term x)) (sym e) h.0; behind = refl; }
+item-at v (q ∷ rs) (x ∷ xs) zero r h low e = record { it = x; is = subst (λ (p : Ref). IsTerm v p (item_term x)) (sym e) h.0; behind = refl }
 item-at v (q ∷ rs) (x ∷ xs) (suc k) r h low e =
     let rest : ItemAt v xs k r = item-at v rs xs k r h.1 (omega (arith, low)) e in
-    record { it = rest.it; is = rest.is; behind = rest.behind; }
+    record { it = rest.it; is = rest.is; behind = rest.behind }
 
 none-behind : {M : Type 0} (v : StoreView M) (rs : List Ref) (xs : List Item) (k : ℕ) → AreRefsOf v rs xs → length rs ≤ k → drop k xs ≡ []
 none-behind v [] [] zero h l = refl
@@ -111,8 +111,8 @@ pub record SoFar (f : Step) (xs : List Item) (k : ℕ) (s r : State) : Type 0 wh
   pub goes : each_item f xs s ≡ each_item f (drop k xs) r
 
 pub so-none : (f : Step) (xs : List Item) (s : State) → IsState s → SoFar f xs 0 s s
-so-none f [] s is = record { state = is; goes = refl; }
-so-none f (x ∷ xs) s is = record { state = is; goes = refl; }
+so-none f [] s is = record { state = is; goes = refl }
+so-none f (x ∷ xs) s is = record { state = is; goes = refl }
 
 add-one : (k : ℕ) → suc k ≡ k + 1
 add-one k = omega arith
@@ -174,7 +174,7 @@ integer-left wanted some has d kept s x i j e told is same =
     (only-left (as_wanted wanted (has_value d i)) some s (told ∙ (ap (as_wanted wanted) is ∙ ap (λ (k : ℤ). as_wanted wanted (has_value d k)) (sym same))))
 
 pub leads : {M : Type 0} (v : StoreView M) (r : Ref) (x : Item) (n : ℕ) → IsTerm v r (item_term x) → followed (bindings v.now.state) (item_term x) ≡ var n → LeadsToVariable v r n
-leads v r x n is e = record { term = item_term x; is = is; root = e; }
+leads v r x n is e = record { term = item_term x; is = is; root = e }
 
 pub variable-left : (wanted some : Bool) (d kept : List Span) (s q : State) (x : Item) (n : ℕ) → followed (bindings s) (item_term x) ≡ var n → IsLeft some q (kept_in kept s n) → IsLeft some q (item_kept wanted d kept s (root_item s x))
 variable-left wanted some d kept s q x n e left = subst (λ (y : Item). IsLeft some q (item_kept wanted d kept s y)) (sym (root-var s x n e)) left
@@ -254,11 +254,11 @@ bound-at : {M : Type 0} (w z : StoreView M) (a r : Ref) (n : ℕ) (i : ℤ) → 
 bound-at w z a r n i is made h value-at binds =
     let s : State = w.now.state in
     let none : held (bindings s) n ≡ None = unbound-at w a n is h in
-    let may : MayBind (bindings s) n (int i) = record { acyclic = is.acyclic; made = subst (λ (k : ℕ). n < k) (sym (as_many s)) made; unbound = none; apart = no-variable-in (bindings s) i n; } in
+    let may : MayBind (bindings s) n (int i) = record { acyclic = is.acyclic; made = subst (λ (k : ℕ). n < k) (sym (as_many s)) made; unbound = none; apart = no-variable-in (bindings s) i n } in
     (binds n h.term (int i) h.is value-at h.root may).state ∙ ap (with_binding s n) (followed_other (bindings s) (int i) (λ m e. cc))
 
 leads-later : {M : Type 0} (v w : StoreView M) (a : Ref) (n : ℕ) → Keeps v w → w.now.state ≡ v.now.state → LeadsToVariable v a n → LeadsToVariable w a n
-leads-later v w a n keeps same h = record { term = h.term; is = keeps.terms a h.term h.is; root = ap (λ (s : State). followed (bindings s) h.term) same ∙ h.root; }
+leads-later v w a n keeps same h = record { term = h.term; is = keeps.terms a h.term h.is; root = ap (λ (s : State). followed (bindings s) h.term) same ∙ h.root }
 
 -- the integer was put before
 pub fixed : {M : Type 0} (v w z : StoreView M) (a r : Ref) (n : ℕ) (i j : ℤ) → IsState v.now.state → AllBelow v → LeadsToVariable v a n → Gives v w v.now.state r (int i) → Binds w z a r → i ≡ j → z.now.state ≡ with_binding v.now.state n (int j)

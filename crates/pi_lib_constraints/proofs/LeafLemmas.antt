@@ -6,7 +6,7 @@ use Rattle.std.specs.Result.{IsErrAnd}
 use Rattle.std.specs.declared.alloc.Global.{Global}
 use Rattle.std.proofs.Common.{arith, sym, ◌∙◌, ap, subst, append_assoc, append-nil}
 use Rattle.std.proofs.lemmas.List.{reverse-append}
-use Rattle.pi_terms.specs.Tree.{Tree, var, int, atom, comp, Trees, no_trees, tree, cells, cells_all, args}
+use Rattle.pi_terms.specs.Tree.{Tree, var, int, atom, comp, Trees, no_trees, tree, cells, cells_all}
 use Rattle.pi_terms.specs.ListNames.{nil, cell_name}
 use Rattle.pi_terms.specs.Substitution.{instance}
 use Rattle.pi_terms.specs.Copy.{copy}
@@ -18,7 +18,7 @@ use Rattle.pi_constraints.specs.declared.store.Cell.{Cell}
 use Rattle.pi_constraints.specs.State.{State, bindings, followed}
 use Rattle.pi_constraints.specs.Store.{StoreView, IsTerm, ShowsCell}
 use Rattle.pi_constraints.specs.Value.{Bindings, IsAcyclic, value}
-use Rattle.pi_constraints.proofs.FollowLemmas.{followed_other, followed_value}
+use Rattle.pi_constraints.proofs.FollowLemmas.{followed_other}
 use Rattle.pi_constraints.proofs.RootLemmas.{with_values, value_comp, value_at_root}
 use Rattle.pi_constraints.proofs.ValueLemmas.{value_goes_by_variables}
 use Rattle.pi_effects.specs.Answer.{found_or}
@@ -186,7 +186,7 @@ pub record IsLeaf (b : Bindings) (t : Tree) : Type 0 where
   pub flat : flat_items b t ≡ Flat.flat (item ∷ [])
 
 variable-leaf : (b : Bindings) (n : ℕ) (u : Tree) → IsAcyclic b → followed b (var n) ≡ u → ((f : Tree → Flat) → flat_variable f b n u ≡ Flat.flat (Item.Var n ∷ [])) → IsLeaf b (var n)
-variable-leaf b n u a at e = record { item = Item.Var n; is = refl; flat = flat-by_root b (var n) a ∙ (ap (flat_variable (flat_items b) b n) at ∙ e (flat_items b)); }
+variable-leaf b n u a at e = record { item = Item.Var n; is = refl; flat = flat-by_root b (var n) a ∙ (ap (flat_variable (flat_items b) b n) at ∙ e (flat_items b)) }
 
 pub leaf-var : (b : Bindings) (t : Tree) (m : ℕ) → IsAcyclic b → followed b t ≡ var m → IsLeaf b t
 leaf-var b (var n) m a at = variable-leaf b n (var m) a at (λ f. refl)
@@ -196,7 +196,7 @@ leaf-var b (comp name ts) m a at = absurd (let same : comp name ts ≡ var m = s
 
 pub leaf-int : (b : Bindings) (t : Tree) (i : _) → IsAcyclic b → followed b t ≡ int i → IsLeaf b t
 leaf-int b (var n) i a at = variable-leaf b n (int i) a at (λ f. refl)
-leaf-int b (int j) i a at = record { item = Item.Int j; is = refl; flat = flat-by_root b (int j) a; }
+leaf-int b (int j) i a at = record { item = Item.Int j; is = refl; flat = flat-by_root b (int j) a }
 leaf-int b (atom name) i a at = absurd (let same : atom name ≡ int i = sym (followed_other b (atom name) (λ j h. cc)) ∙ at in cc)
 leaf-int b (comp name ts) i a at = absurd (let same : comp name ts ≡ int i = sym (followed_other b (comp name ts) (λ j h. cc)) ∙ at in cc)
 

@@ -1,9 +1,9 @@
 -- What a goal that posts leaves: new variables, constraints, and default domains, one after the other.
-use Rattle.std.specs.Prelude.{◌≡◌, ◌⊎◌, ℕ, zero, suc, ◌<◌, ◌≤◌, ◌+◌, neg_ℤ, List, [], ◌∷◌, ◌++◌, length, take, get_or, map, Contains, Option, Some, None, unwrap_or, Result, Ok, Err, codes, refl}
+use Rattle.std.specs.Prelude.{◌≡◌, ◌⊎◌, ℕ, zero, suc, ◌<◌, ◌≤◌, ◌+◌, neg_ℤ, List, [], ◌∷◌, ◌++◌, length, take, get_or, Option, Some, None, unwrap_or, Result, Ok, Err, codes, refl}
 use Rattle.std.proofs.Common.{arith, sym, ◌∙◌, ap, subst, inl, inr, append_assoc, append-nil}
 use Rattle.std.proofs.lemmas.List.{take_more, take_all}
 use Rattle.std.proofs.lemmas.List.Elements.{Contains-get_or}
-use Rattle.pi_terms.specs.Tree.{Tree, var, int, atom, comp, args, no_trees, tree}
+use Rattle.pi_terms.specs.Tree.{Tree, var, atom, comp, args, no_trees, tree}
 use Rattle.pi_terms.specs.Places.{held}
 use Rattle.pi_terms.specs.Variables.{Occurs}
 use Rattle.pi_constraints.specs.declared.constraint.Constraint.{Constraint}
@@ -12,12 +12,12 @@ use Rattle.pi_constraints.specs.declared.domain.Span.{Span}
 use Rattle.pi_constraints.specs.declared.domain.TheConstants.{MAX_VALUE}
 use Rattle.pi_constraints.specs.declared.store.Ref.{Ref}
 use Rattle.pi_constraints.specs.declared.store.Cell.{Cell}
-use Rattle.pi_constraints.specs.Constraint.{SpeaksOf, HoldVariable, HoldsVariable, SumHasVariable, IsWithinLimits}
+use Rattle.pi_constraints.specs.Constraint.{SpeaksOf, HoldVariable, HoldsVariable, SumHasVariable}
 use Rattle.pi_constraints.specs.Domain.{size_of, values_of, IsDomain}
 use Rattle.pi_constraints.specs.Evaluation.{with_new_variables}
 use Rattle.pi_constraints.specs.Stored.{stored}
-use Rattle.pi_constraints.specs.State.{State, IsState, IsUnbound, Variable, free, within, bound, binding, bindings, next, domain_of, domain_in, followed, with_new, with_constraint, with_domain, MayPost, SpeaksBelow}
-use Rattle.pi_constraints.specs.Store.{StoreView, IsTerm, Keeps, Stays, Confines, ShowsCell}
+use Rattle.pi_constraints.specs.State.{State, IsState, Variable, free, within, bound, binding, bindings, next, domain_in, followed, with_new, with_constraint, with_domain, MayPost, SpeaksBelow}
+use Rattle.pi_constraints.specs.Store.{StoreView, IsTerm, Stays, Confines, ShowsCell}
 use Rattle.pi_constraints.specs.Value.{Bindings, IsAcyclic, value, rounds, replaced_once}
 use Rattle.pi_constraints.proofs.CommonLemmas.{size_of-cons}
 use Rattle.pi_constraints.proofs.FollowLemmas.{followed_itself, followed_unbound, followed_below}

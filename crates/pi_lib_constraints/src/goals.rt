@@ -5,16 +5,70 @@ ghost use Rattle.pi_constraints.specs.State.{IsState};
 ghost use Rattle.pi_constraints.specs.Store.{IsTerm, AreTerms, Keeps};
 ghost use Rattle.pi_effects.specs.Effect.{Effect};
 ghost use Rattle.pi_lib.specs.Outcomes.{ShowsOutcome};
+ghost use Rattle.pi_settling.specs.Goals.{constraint_effect};
 ghost use Rattle.pi_settling.specs.Posted.{posting_goal};
-ghost use Rattle.pi_lib_constraints.specs.Names.{one_name, comparison_name, connective_name};
+ghost use Rattle.pi_lib_constraints.specs.Done.{two_done};
+ghost use Rattle.pi_lib_constraints.specs.Names.{one_name, comparison_name, connective_name, goal_name, goal_arity};
 
-use crate::kinds::GoalOfOne;
+use crate::arguments::{one, three, two};
+use crate::kinds::{ConstraintGoal, GoalOfOne, GoalOfTwo};
 use crate::posting::post;
+use crate::within::{not_in, within};
 use pi_constraints::{Ref, StoredDomains};
 use pi_effects::Stop;
 use pi_lib::Outcome;
 use pi_prop_read::{Comparison, Connective, PostingGoal};
 use std::alloc::Global;
+
+/// What a call of a goal of constraints comes to, or what is raised. It is said where there are as many arguments as the goal
+/// takes. What it leaves isn't settled yet. A User's Guide to Picat, 'Constraints'; limits and exceptions are own.
+pub fn call_constraint<S: StoredDomains>(
+    alloc: Global,
+    s: &mut S,
+    goal: ConstraintGoal,
+    args: &[Ref],
+) -> Result<Outcome, Stop>
+    ensures keeps { Keeps (S.seen s.old) (S.seen s.new) }
+    ensures shows { (ts : Trees) (e : Effect) → IsState (S.seen s.old).now.state → AreTerms (S.seen s.old) args.now ts →
+        length args.now ≡ goal_arity goal → constraint_effect (goal_name goal) ts (S.seen s.old).now.state ≡ Some e →
+        ShowsOutcome (S.seen s.old) (S.seen s.new) result e }
+{
+    match goal {
+        ConstraintGoal::OfOne(goal) => match one(args) {
+            Some(a) => call_of_one(alloc, s, goal, a),
+            None => Err(Stop::Memory),
+        },
+        ConstraintGoal::OfTwo(goal) => match two(args) {
+            Some((a, b)) => call_of_two(alloc, s, goal, a, b),
+            None => Err(Stop::Memory),
+        },
+        ConstraintGoal::Element => match three(args) {
+            Some((a, b, c)) => call_of_element(alloc, s, a, b, c),
+            None => Err(Stop::Memory),
+        },
+    }
+}
+
+/// A call of a goal with two arguments.
+fn call_of_two<S: StoredDomains>(
+    alloc: Global,
+    s: &mut S,
+    goal: GoalOfTwo,
+    a: Ref,
+    b: Ref,
+) -> Result<Outcome, Stop>
+    ensures keeps { Keeps (S.seen s.old) (S.seen s.new) }
+    ensures shows { (t u : Tree) → IsState (S.seen s.old).now.state → IsTerm (S.seen s.old) a t →
+        IsTerm (S.seen s.old) b u → ShowsOutcome (S.seen s.old) (S.seen s.new) result
+        (two_done goal (S.seen s.old).now.state t u) }
+{
+    match goal {
+        GoalOfTwo::Within => within(alloc, s, a, b),
+        GoalOfTwo::NotIn => not_in(alloc, s, a, b),
+        GoalOfTwo::Relation(comparison) => relate(alloc, s, comparison, a, b),
+        GoalOfTwo::Joined(connective) => join(alloc, s, connective, a, b),
+    }
+}
 
 /// A call of a goal with one argument.
 fn call_of_one<S: StoredDomains>(

@@ -7,9 +7,14 @@ mod goals;
 mod keeping;
 mod kinds;
 mod leaves;
+mod lookup;
+mod others;
 mod posting;
+mod shapes;
+mod sides;
+mod values;
+mod within;
 
-
-
-
+pub use goals::call_constraint;
 pub use kinds::{ConstraintGoal, GoalOfOne, GoalOfTwo};
+pub use lookup::constraint_named;

@@ -1,6 +1,6 @@
 use Rattle.pi_constraints.specs.State.{bindings}
 use Rattle.pi_constraints.specs.declared.store.Cell.{Cell}
-use Rattle.pi_terms.specs.Tree.{comp, args}
+use Rattle.pi_terms.specs.Tree.{args}
 use Rattle.pi_constraints.specs.State.{followed}
 use Rattle.pi_unify.specs.Terms.{term_of}
 use Rattle.pi_lib_constraints.proofs.LeafLemmas.{leaf-var, leaf-int, leaf-step, whole-step, whole_atom, whole_comp, shown-root}

@@ -1,4 +1,4 @@
-use Rattle.std.proofs.Common.{◌≡◌, ◌<◌, ◌-◌, suc, length, drop, get_or, reverse, ◌++◌, refl, subst, arith, ap, ◌∙◌, sym}
+use Rattle.std.proofs.Common.{◌≡◌, ◌<◌, ◌-◌, suc, length, drop, get_or, reverse, ◌++◌, refl, arith, ap, ◌∙◌}
 use Rattle.std.proofs.lemmas.List.{get_or_default}
 use Rattle.pi_constraints.specs.declared.store.Ref.{Ref}
 use Rattle.pi_lib_constraints.proofs.LeafLemmas.{pushed-none, pushed-more}

@@ -1,10 +1,8 @@
-use Rattle.std.proofs.Common.{◌≡◌, ℕ, ◌<◌, take}
-use Rattle.pi_constraints.specs.Constraint.{HoldVariable}
-use Rattle.pi_constraints.specs.Evaluation.{with_new_variables}
+use Rattle.std.proofs.Common.{◌≡◌, take}
 use Rattle.pi_constraints.specs.State.{IsState, next}
 use Rattle.pi_constraints.specs.Store.{Keeps}
 use Rattle.pi_settling.specs.Confined.{confined}
-use Rattle.pi_settling.specs.Posted.{with_constraints, places_of_all}
+use Rattle.pi_settling.specs.Posted.{places_of_all}
 use Rattle.pi_settling.specs.Roots.{all_values}
 use Rattle.pi_lib_constraints.specs.Posts.{MayPostAll}
 use Rattle.pi_lib_constraints.proofs.posting.confine_all.Given as goal

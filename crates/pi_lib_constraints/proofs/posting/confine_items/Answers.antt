@@ -5,7 +5,7 @@ use Rattle.pi_lib_constraints.proofs.PostLemmas.{confined-none, confined-more, c
 use Rattle.pi_lib_constraints.proofs.posting.confine_items.Goals as goal
 
 pub loop-k-init : goal.loop-k-init
-loop-k-init g c = let v = g.S.StateStore.seen c.args.s.now in record { keeps = keeps_none v; state = λ is e all. confined-none v.now.state; }
+loop-k-init g c = let v = g.S.StateStore.seen c.args.s.now in record { keeps = keeps_none v; state = λ is e all. confined-none v.now.state }
 
 pub loop-k-preserved : goal.loop-k-preserved
 loop-k-preserved g c =

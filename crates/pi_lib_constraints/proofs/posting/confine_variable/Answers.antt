@@ -1,13 +1,13 @@
 use Rattle.std.proofs.Common.{arith}
 use Rattle.pi_terms.specs.Tree.{var}
 use Rattle.pi_unify.proofs.KeepsLemmas.{keeps_none}
-use Rattle.pi_lib_constraints.proofs.PostLemmas.{other-stays, filled-stays, default-given}
+use Rattle.pi_lib_constraints.proofs.PostLemmas.{other-stays, default-given}
 use Rattle.pi_lib_constraints.proofs.posting.confine_variable.Goals as goal
 
 pub returns-in_default : goal.returns-in_default
 returns-in_default g c =
     let v = g.S.StateStore.seen c.args.s.now in
-    record { keeps = keeps_none v; ok = λ n is e at. other-stays v v.now.state n c.look.result (c.look.ensures.shows (var n) at is.acyclic) c.in_default.not-Var; }
+    record { keeps = keeps_none v; ok = λ n is e at. other-stays v v.now.state n c.look.result (c.look.ensures.shows (var n) at is.acyclic) c.in_default.not-Var }
 
 pub returns-clause-ok : goal.returns-clause-ok
 returns-clause-ok g c = λ n is e at.
