@@ -26,4 +26,5 @@ mod variables;
 pub use functions::call_function;
 pub use pi_syntax::{BuiltinKind, is_builtin, prelude};
 pub use predicates::{Outcome, call_predicate};
+pub use ranges::{count_by, value_after};
 pub use runs::{LibStep, LibValue, run_function, run_predicate};

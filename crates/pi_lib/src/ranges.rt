@@ -99,7 +99,7 @@ fn put_range<S: StateStore>(s: &mut S, low: i128, step: i128, high: i128) -> Res
 }
 
 /// How many values a range has; None exactly where there are more than 16,777,216.
-fn count_by(low: i128, step: i128, high: i128) -> Option<u64>
+pub fn count_by(low: i128, step: i128, high: i128) -> Option<u64>
     requires { step ≢ pos 0 }
     ensures { MatchOption result (spec.most_items < spec.count_by low step high) (λ count. (count ≡ spec.count_by low step high) ×
         (count ≤ spec.most_items)) }
@@ -135,7 +135,7 @@ fn put_values<S: StateStore>(
 }
 
 /// The value that a number becomes in so many steps.
-fn value_after(low: i128, step: i128, steps: u64) -> i128
+pub fn value_after(low: i128, step: i128, steps: u64) -> i128
     requires { FitsSigned w128 (value_after low step steps) }
     ensures { result ≡ value_after low step steps }
 {
