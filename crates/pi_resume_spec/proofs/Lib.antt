@@ -22,3 +22,4 @@ pub mod FunctionsMore
 pub mod MoreRules
 pub mod MoreNames
 pub mod PathRunLemmas
+pub mod RunExamples
