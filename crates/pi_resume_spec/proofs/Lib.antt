@@ -23,3 +23,4 @@ pub mod MoreRules
 pub mod MoreNames
 pub mod PathRunLemmas
 pub mod RunExamples
+pub mod EachRun

@@ -60,7 +60,7 @@ paths-do_more b adds program q d = (query-more b adds program q d).ways
 pub queries-follow_more : QueriesFollowMore
 queries-follow_more b adds program q path d = resumed-more b adds program q path d
 
-told-deeper : (most : ℕ) (b : Offers) → OffersOnlyAdd b → (program : List PredTree) (q : QueryTree) → DepthOnlyAdds (path_trace most b program q)
+pub told-deeper : (most : ℕ) (b : Offers) → OffersOnlyAdd b → (program : List PredTree) (q : QueryTree) → DepthOnlyAdds (path_trace most b program q)
 told-deeper most b adds program q d = told-below most (query_search b program q d).ways (query_search b program q (suc d)).ways (paths-do_more b adds program q d)
 
 resumed-deeper : (most : ℕ) (b : Offers) → OffersOnlyAdd b → (program : List PredTree) (q : QueryTree) (path : List ℕ) → FollowsMore (resumed_trace most b program q path)

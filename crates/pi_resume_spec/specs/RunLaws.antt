@@ -5,6 +5,7 @@ use Rattle.pi_core.specs.declared.log.LogEntry.{LogEntry}
 use Rattle.pi_traces.specs.Trace.{Trace, end, ans, End, Call, Miss, done, Emitted, emit, answers}
 use Rattle.pi_traces.specs.Depth.{DepthOnlyAdds, Stop, Ended, Spent, Cut, cut}
 use Rattle.pi_meaning.specs.Shared.View.{View, query_view}
+use Rattle.pi_meaning.specs.CoreMeaning.Sound.{IsSoundQuery}
 use Rattle.pi_meaning.specs.CoreMeaning.Run.{Solution}
 use Rattle.pi_solve_spec.specs.Calls.{ReachesToCut, Asks}
 use Rattle.pi_solve_spec.specs.Counted.{loads_of}
@@ -116,6 +117,18 @@ abbrev pub ToldPathsAreGood : Type 0
 ToldPathsAreGood = (most : ℕ) (v : View) (later : LaterSearches) → IsLater later → (program : List PredTree) (q : QueryTree) (d : ℕ) (w : Way Solution) (rest : Ways Solution) →
     At (path_trace most (all_names v later (program ++ q.helpers)) program q d) w rest → (n : ℕ) →
     (resumed_cut n (resumed_trace most (all_names v later (program ++ q.helpers)) program q w.path d)).stop ≢ bad_path
+
+-- ---- each sound query has its run, where no later stage is there
+
+abbrev pub SoundQueriesTellPaths : Type 0
+SoundQueriesTellPaths = (most : ℕ) (v : View) (program : List PredTree) (q : QueryTree) → IsSoundQuery program q → (n : ℕ) →
+    (c : Cut (Way Solution)) × IsPathRunUnder most (all_names v nothing_later (program ++ q.helpers)) program q n c
+
+-- and its resumed run behind each answer that the run tells
+abbrev pub ToldAnswersAreResumed : Type 0
+ToldAnswersAreResumed = (most : ℕ) (v : View) (program : List PredTree) (q : QueryTree) → IsSoundQuery program q → (d : ℕ) (w : Way Solution) (rest : Ways Solution) →
+    At (path_trace most (all_names v nothing_later (program ++ q.helpers)) program q d) w rest → (n : ℕ) →
+    (c : ResumedCut (Way Solution)) × IsResumedRunUnder most (all_names v nothing_later (program ++ q.helpers)) program q w.path n c
 
 -- ---- the work of a resumed run
 
