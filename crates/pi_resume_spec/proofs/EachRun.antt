@@ -1,9 +1,9 @@
 -- Where no later stage is there each sound query has its run that tells paths, and its resumed run behind each answer that this tells.
 use Rattle.std.specs.Prelude.{◌≡◌, ℕ, zero, suc, ◌+◌, ◌≤◌, Bool, true, false, cond, nat_lt, List, [], ◌++◌, length, refl}
-use Rattle.std.proofs.Common.{arith, sym, ◌∙◌, ap, subst}
+use Rattle.std.proofs.Common.{arith, ◌∙◌, ap, subst}
 use Rattle.pi_core.specs.CoreTree.{PredTree, QueryTree}
-use Rattle.pi_traces.specs.Trace.{Trace, end, note, ans, Deep, Note, Tick, Load, Out, alt, then}
-use Rattle.pi_traces.specs.Depth.{Below, deeper, same_end, same_note, same_answer, Ended, cut, CutWithoutDeep}
+use Rattle.pi_traces.specs.Trace.{Trace, end, note, ans, Deep, Tick, Load, Out, alt, then}
+use Rattle.pi_traces.specs.Depth.{Below, same_note, same_answer, Ended, cut, CutWithoutDeep}
 use Rattle.pi_traces.proofs.BelowLemmas.{below-later}
 use Rattle.pi_traces.proofs.CutLemmas.{cut-below}
 use Rattle.pi_meaning.specs.Shared.View.{View}
@@ -127,9 +127,11 @@ alone v program q = all_names v nothing_later (program ++ q.helpers)
 
 told-reaches : (most : ℕ) (v : View) (program : List PredTree) (q : QueryTree) → IsSoundQuery program q → (n : ℕ) → (d : ℕ) × CutWithoutDeep n (path_trace most (alone v program q) program q d)
 told-reaches most v program q sound n =
-    let r : (d : ℕ) × CutWithoutDeep n (query_trace (whole v no_later (program ++ q.helpers)) program q d) = depth-reaches v program q sound.preds.ticks n in
-    (r.0, λ e. r.1 (subst (λ (t : Trace Solution). (cut n t).stop ≡ Ended Deep) (paths-add-nothing v nothing_later nothing-is-later program q (sound-is-committed (program ++ q.helpers) sound.preds) r.0)
-    (told-deep n most (query_search (alone v program q) program q r.0).ways e)))
+    let r : (d : ℕ) × CutWithoutDeep n (query_trace (whole v no_later (program ++ q.helpers)) program q d) = depth-reaches v program q sound.preds.ticks n in (
+      r.0,
+      λ e. r.1 (subst (λ (t : Trace Solution). (cut n t).stop ≡ Ended Deep) (paths-add-nothing v nothing_later nothing-is-later program q (sound-is-committed (program ++ q.helpers) sound.preds) r.0)
+          (told-deep n most (query_search (alone v program q) program q r.0).ways e)),
+    )
 
 pub sound-tell : SoundQueriesTellPaths
 sound-tell most v program q sound n =
@@ -148,12 +150,14 @@ told-resumed most v program q sound d w rest at n =
     let more = told-deeper most (alone v program q) (alone-adds v program q) program q in
     let same : cut (k + n) (t r.0) ≡ cut (k + n) (t both) = cut-below (k + n) (t r.0) (t both) (below-later t more r.0 d both (omega arith)) r.1 in
     let there : Deeper k (t both) w = answers-deeper at (t both) (below-later t more d r.0 both refl) in
-    let f : Following Solution = resumed_trace most (alone v program q) program q w.path both in
-    (resumed_cut n f, record {
-      depth = both;
-      reaches = λ e.
-          let deep = leads-deep n f w.path w.answer [] there.rest (told-resume most v nothing_later nothing-is-later program q both w there.rest there.is_there) e in
-          let few = deep.1 in
-          r.1 (ap (λ c. c.stop) same ∙ fewer-deep (k + deep.0) (k + n) (t both) (omega (arith, few)) (there.deep deep.0 deep.2));
-      is_cut = refl;
-    })
+    let f : Following Solution = resumed_trace most (alone v program q) program q w.path both in (
+      resumed_cut n f,
+      record {
+        depth = both;
+        reaches = λ e.
+            let deep = leads-deep n f w.path w.answer [] there.rest (told-resume most v nothing_later nothing-is-later program q both w there.rest there.is_there) e in
+            let few = deep.1 in
+            r.1 (ap (λ c. c.stop) same ∙ fewer-deep (k + deep.0) (k + n) (t both) (omega (arith, few)) (there.deep deep.0 deep.2));
+        is_cut = refl;
+      },
+    )

@@ -271,3 +271,18 @@ forms-others :
     × (trace p (if_else (p_of (var 0)) (alternatives_of (truth ∷ truth ∷ [])) fail) 1 4 ≡ saw Tick ∷ at (1 ∷ []) (n 1) ∷ at (2 ∷ []) (n 1) ∷ ends Done ∷ [])
 unfolding trace from
 forms-others = (refl, refl, refl, refl, refl, refl, refl, refl, refl, refl, refl, refl, refl, refl, refl, refl, refl, refl, refl)
+
+-- An arrow is no choice. (fail -> X = 1 ; X = 2 ; X = 3) is an `if` whose other side has the branches 1 and 2; in (X = 1 ; fail -> X = 2 ; X = 3 ; X = 4) it is branch 2 of the whole.
+abbrev arrow_first : GoalTree
+arrow_first = if_else fail (is 0 1) (alternatives_of (is 0 2 ∷ is 0 3 ∷ []))
+
+abbrev arrow_later : GoalTree
+arrow_later = alternatives_of (is 0 1 ∷ if_else fail (is 0 2) (alternatives_of (is 0 3 ∷ is 0 4 ∷ [])) ∷ [])
+
+arrows :
+    (trace [] arrow_first 1 0 ≡ at (1 ∷ []) (n 2) ∷ at (2 ∷ []) (n 3) ∷ ends Done ∷ [])
+    × (from [] arrow_first 1 0 (1 ∷ []) ≡ here (1 ∷ []) (n 2) ∷ at (2 ∷ []) (n 3) ∷ ends Done ∷ [])
+    × (from [] arrow_first 1 0 (3 ∷ []) ≡ bad_path ∷ [])
+    × (trace [] arrow_later 1 0 ≡ at (1 ∷ []) (n 1) ∷ at (2 ∷ 1 ∷ []) (n 3) ∷ at (2 ∷ 2 ∷ []) (n 4) ∷ ends Done ∷ [])
+unfolding trace from
+arrows = (refl, refl, refl, refl)

@@ -2,8 +2,8 @@
 use Rattle.std.specs.Prelude.{◌≡◌, ◌≢◌, ℕ, suc, ◌+◌, ◌<◌, ◌≤◌, List, [], ◌++◌, length, All}
 use Rattle.pi_core.specs.CoreTree.{PredTree, QueryTree}
 use Rattle.pi_core.specs.declared.log.LogEntry.{LogEntry}
-use Rattle.pi_traces.specs.Trace.{Trace, end, ans, End, Call, Miss, done, Emitted, emit, answers}
-use Rattle.pi_traces.specs.Depth.{DepthOnlyAdds, Stop, Ended, Spent, Cut, cut}
+use Rattle.pi_traces.specs.Trace.{end, ans, End, Call, Miss, done, Emitted, emit, answers}
+use Rattle.pi_traces.specs.Depth.{DepthOnlyAdds, Ended, Spent, Cut, cut}
 use Rattle.pi_meaning.specs.Shared.View.{View, query_view}
 use Rattle.pi_meaning.specs.CoreMeaning.Sound.{IsSoundQuery}
 use Rattle.pi_meaning.specs.CoreMeaning.Run.{Solution}
