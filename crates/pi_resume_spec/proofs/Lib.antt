@@ -24,3 +24,4 @@ pub mod MoreNames
 pub mod PathRunLemmas
 pub mod RunExamples
 pub mod EachRun
+pub mod MoreStages
