@@ -25,3 +25,4 @@ pub mod PathRunLemmas
 pub mod RunExamples
 pub mod EachRun
 pub mod MoreStages
+pub mod LastLemmas
