@@ -26,3 +26,4 @@ pub mod RunExamples
 pub mod EachRun
 pub mod MoreStages
 pub mod LastLemmas
+pub mod LastGoals
