@@ -219,21 +219,27 @@ catch-lasts Ok g d s h a all = record { ways = catching-lasts Ok g d s.ways h a.
 
 -- ---- rules
 
-unfoldable pub RulesLast : {X A : Type 0} → (ℕ → X → Type 0) → (ℕ → A → Type 0) → ℕ → List (RuleSearch X A) → Type 0
-RulesLast P Ok d [] = ⊤
-RulesLast P Ok d (r ∷ rs) = (Lasts P d r.applies × EachLasts P Ok d r.body) × RulesLast P Ok d rs
+-- a rule: where it applies, by what is said of the places there, and its body from each of them
+pub record RuleLasts {X A : Type 0} (Ok : ℕ → A → Type 0) (d : ℕ) (r : RuleSearch X A) : Type 1 where
+  pub there : ℕ → X → Type 0
+  pub applies : Lasts there d r.applies
+  pub body : EachLasts there Ok d r.body
+
+unfoldable pub RulesLast : {X A : Type 0} → (ℕ → A → Type 0) → ℕ → List (RuleSearch X A) → Type 1
+RulesLast Ok d [] = Unit {1}
+RulesLast Ok d (r ∷ rs) = RuleLasts Ok d r × RulesLast Ok d rs
 
 unless-lasts : {A : Type 0} (Ok : ℕ → A → Type 0) (d : ℕ) (c : Bool) (t : Ways A) → Lasts (OnWay Ok) d t → Lasts (OnWay Ok) d (rest_unless c t)
 unless-lasts Ok d true t a = done-lasts (OnWay Ok) d
 unless-lasts Ok d false t a = a
 
-rules-ways : {X A : Type 0} (P : ℕ → X → Type 0) (Ok : ℕ → A → Type 0) → Falls Ok → (d k : ℕ) (rs : List (RuleSearch X A)) → RulesLast P Ok d rs → Lasts (OnWay Ok) d (rules_ways k rs)
+rules-ways : {X A : Type 0} (Ok : ℕ → A → Type 0) → Falls Ok → (d k : ℕ) (rs : List (RuleSearch X A)) → RulesLast Ok d rs → Lasts (OnWay Ok) d (rules_ways k rs)
 unfolding RulesLast rules_ways
-rules-ways P Ok h d k [] a = done-lasts (OnWay Ok) d
-rules-ways P Ok h d k (r ∷ rs) a =
-    let more = rules-ways P Ok h d (suc k) rs a.1 in
-    chosen-lasts P (OnWay Ok) (way-falls Ok h) d r.applies (λ x. alt (numbered k (r.body x).ways) (rest_unless r.committed (rules_ways (suc k) rs))) (rules_ways (suc k) rs) a.0.0
-    (λ j x m o. alt-lasts (OnWay Ok) (way-falls Ok h) j (numbered k (r.body x).ways) (rest_unless r.committed (rules_ways (suc k) rs)) (numbered-lasts Ok h j k (r.body x).ways (a.0.1 j x m o).ways)
+rules-ways Ok h d k [] a = done-lasts (OnWay Ok) d
+rules-ways Ok h d k (r ∷ rs) a =
+    let more = rules-ways Ok h d (suc k) rs a.1 in
+    chosen-lasts a.0.there (OnWay Ok) (way-falls Ok h) d r.applies (λ x. alt (numbered k (r.body x).ways) (rest_unless r.committed (rules_ways (suc k) rs))) (rules_ways (suc k) rs) a.0.applies
+    (λ j x m o. alt-lasts (OnWay Ok) (way-falls Ok h) j (numbered k (r.body x).ways) (rest_unless r.committed (rules_ways (suc k) rs)) (numbered-lasts Ok h j k (r.body x).ways (a.0.body j x m o).ways)
     (unless-lasts Ok j r.committed (rules_ways (suc k) rs) (less-left (OnWay Ok) (way-falls Ok h) d j m (rules_ways (suc k) rs) more))) more
 
 on-first : {X A : Type 0} (P : ℕ → X → Type 0) (Ok : ℕ → A → Type 0) → Falls Ok → (d : ℕ) (t : Trace X) (f : X → Following A) (other : Following A) → Lasts P d t → ((k : ℕ) (x : X) → k ≤ d → P k x → FollowLasts Ok k (f x)) →
@@ -258,26 +264,26 @@ bad-lasts : {A : Type 0} (Ok : ℕ → A → Type 0) (d : ℕ) → FollowLasts O
 unfolding FollowLasts
 bad-lasts Ok d = tt
 
-rules-taken : {X A : Type 0} (P : ℕ → X → Type 0) (Ok : ℕ → A → Type 0) → Falls Ok → (d k : ℕ) (rs : List (RuleSearch X A)) (i : ℕ) (p : List ℕ) → RulesLast P Ok d rs → FollowLasts Ok d (rules_taken k rs i p)
+rules-taken : {X A : Type 0} (Ok : ℕ → A → Type 0) → Falls Ok → (d k : ℕ) (rs : List (RuleSearch X A)) (i : ℕ) (p : List ℕ) → RulesLast Ok d rs → FollowLasts Ok d (rules_taken k rs i p)
 unfolding RulesLast rules_taken
-rules-taken P Ok h d k [] i p a = bad-lasts Ok d
-rules-taken P Ok h d k (r ∷ rs) zero p a =
+rules-taken Ok h d k [] i p a = bad-lasts Ok d
+rules-taken Ok h d k (r ∷ rs) zero p a =
     let rest = rest_unless r.committed (rules_ways (suc k) rs) in
-    on-first P Ok h d r.applies (λ x. with_rest (k ∷ []) rest ((r.body x).follows p)) bad a.0.0
+    on-first a.0.there Ok h d r.applies (λ x. with_rest (k ∷ []) rest ((r.body x).follows p)) bad a.0.applies
     (λ j x m o. with-rest Ok h j (k ∷ []) rest ((r.body x).follows p)
-    (unless-lasts Ok j r.committed (rules_ways (suc k) rs) (less-left (OnWay Ok) (way-falls Ok h) d j m (rules_ways (suc k) rs) (rules-ways P Ok h d (suc k) rs a.1))) ((a.0.1 j x m o).follows p)) (bad-lasts Ok d)
-rules-taken P Ok h d k (r ∷ rs) (suc i) p a =
-    let more = rules-taken P Ok h d (suc k) rs i p a.1 in
-    on-first P Ok h d r.applies (λ x. bad_if r.committed (rules_taken (suc k) rs i p)) (rules_taken (suc k) rs i p) a.0.0
+    (unless-lasts Ok j r.committed (rules_ways (suc k) rs) (less-left (OnWay Ok) (way-falls Ok h) d j m (rules_ways (suc k) rs) (rules-ways Ok h d (suc k) rs a.1))) ((a.0.body j x m o).follows p)) (bad-lasts Ok d)
+rules-taken Ok h d k (r ∷ rs) (suc i) p a =
+    let more = rules-taken Ok h d (suc k) rs i p a.1 in
+    on-first a.0.there Ok h d r.applies (λ x. bad_if r.committed (rules_taken (suc k) rs i p)) (rules_taken (suc k) rs i p) a.0.applies
     (λ j x m o. bad-if Ok j r.committed (rules_taken (suc k) rs i p) (less-follows Ok h d j m (rules_taken (suc k) rs i p) more)) more
 
-rules-followed : {X A : Type 0} (P : ℕ → X → Type 0) (Ok : ℕ → A → Type 0) → Falls Ok → (d : ℕ) (rs : List (RuleSearch X A)) (p : List ℕ) → RulesLast P Ok d rs → FollowLasts Ok d (rules_followed rs p)
-rules-followed P Ok h d rs [] a = bad-lasts Ok d
-rules-followed P Ok h d rs (zero ∷ p) a = bad-lasts Ok d
-rules-followed P Ok h d rs (suc i ∷ p) a = rules-taken P Ok h d 1 rs i p a
+rules-followed : {X A : Type 0} (Ok : ℕ → A → Type 0) → Falls Ok → (d : ℕ) (rs : List (RuleSearch X A)) (p : List ℕ) → RulesLast Ok d rs → FollowLasts Ok d (rules_followed rs p)
+rules-followed Ok h d rs [] a = bad-lasts Ok d
+rules-followed Ok h d rs (zero ∷ p) a = bad-lasts Ok d
+rules-followed Ok h d rs (suc i ∷ p) a = rules-taken Ok h d 1 rs i p a
 
-pub rules-last : {X A : Type 0} (P : ℕ → X → Type 0) (Ok : ℕ → A → Type 0) → Falls Ok → (d : ℕ) (rs : List (RuleSearch X A)) → RulesLast P Ok d rs → SearchLasts Ok d (rules_search rs)
-rules-last P Ok h d rs a = record { ways = rules-ways P Ok h d 1 rs a; follows = λ p. rules-followed P Ok h d rs p a }
+pub rules-last : {X A : Type 0} (Ok : ℕ → A → Type 0) → Falls Ok → (d : ℕ) (rs : List (RuleSearch X A)) → RulesLast Ok d rs → SearchLasts Ok d (rules_search rs)
+rules-last Ok h d rs a = record { ways = rules-ways Ok h d 1 rs a; follows = λ p. rules-followed Ok h d rs p a }
 
 -- ---- Ticks and conditions
 

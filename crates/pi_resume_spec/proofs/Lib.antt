@@ -27,3 +27,5 @@ pub mod EachRun
 pub mod MoreStages
 pub mod LastLemmas
 pub mod LastGoals
+pub mod LastFunctions
+pub mod LastRules
