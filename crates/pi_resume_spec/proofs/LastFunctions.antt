@@ -1,5 +1,5 @@
 -- Calls of functions last as long as their level is deep, by the core meaning.
-use Rattle.std.specs.Prelude.{◌≡◌, ◌⊎◌, ℕ, suc, ◌≤◌, Bool, true, false, List, [], ◌∷◌, Option, Some, None, Contains, replicate, codes, ⊤, refl}
+use Rattle.std.specs.Prelude.{ℕ, suc, ◌≤◌, false, List, [], ◌∷◌, Option, Some, None, Contains, replicate, codes, ⊤, refl}
 use Rattle.std.proofs.Common.{arith, inl, inr}
 use Rattle.pi_terms.specs.Tree.{Tree, comp, Trees}
 use Rattle.pi_terms.specs.Places.{Places}
@@ -8,8 +8,8 @@ use Rattle.pi_constraints.specs.HeadMatch.{matched_all_in}
 use Rattle.pi_effects.specs.Exception.{exception_with}
 use Rattle.pi_core.specs.GoalTree.{GoalTree, truth}
 use Rattle.pi_core.specs.CoreTree.{ClauseTree, PredTree}
-use Rattle.pi_traces.specs.Trace.{Trace, one, then}
-use Rattle.pi_traces.proofs.LastLemmas.{Lasts, Any, any-falls, less-left, done-lasts, raise-lasts, one-lasts, then-lasts, chosen-lasts}
+use Rattle.pi_traces.specs.Trace.{Trace, one}
+use Rattle.pi_traces.proofs.LastLemmas.{Lasts, Any, any-falls, done-lasts, raise-lasts, one-lasts, then-lasts, chosen-lasts}
 use Rattle.pi_meaning.specs.Shared.Raise.{raised_with}
 use Rattle.pi_meaning.specs.Shared.Level.{Level, Applied, Point}
 use Rattle.pi_meaning.specs.CoreMeaning.Builtins.{Builtins}

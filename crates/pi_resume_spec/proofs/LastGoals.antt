@@ -1,5 +1,5 @@
 -- Each goal of the core language lasts as long as its level is deep, in both runs, where the quiet calls that it reaches may nest.
-use Rattle.std.specs.Prelude.{◌≡◌, ◌⊎◌, ℕ, suc, ◌-◌, ◌≤◌, Bool, true, false, List, [], ◌∷◌, length, Option, Some, None, pos, ⊤, refl}
+use Rattle.std.specs.Prelude.{◌≡◌, ◌⊎◌, ℕ, suc, ◌-◌, ◌≤◌, true, false, List, [], ◌∷◌, length, Option, Some, None, pos, ⊤, refl}
 use Rattle.std.proofs.Common.{arith, ap, ◌∙◌, inl, inr}
 use Rattle.pi_terms.specs.Tree.{Tree, int, Trees, trees_of, tree_count}
 use Rattle.pi_terms.specs.Copy.{copy, new_variables}
@@ -8,10 +8,10 @@ use Rattle.pi_constraints.specs.Unify.{unified}
 use Rattle.pi_constraints.specs.Evaluation.{Evaluated, evaluated, EvaluatedAll, evaluated_all, with_new_variables}
 use Rattle.pi_core.specs.GoalTree.{GoalTree, truth, fail, tick, call, apply, seq, alternatives as any_of, if_else, not, once, collect, count, catch, GoalTrees, no_goals, goal}
 use Rattle.pi_core.specs.CoreTree.{PredTree, find_pred}
-use Rattle.pi_traces.specs.Trace.{Trace, Raise, Done, done, end, one, then, first}
+use Rattle.pi_traces.specs.Trace.{Trace, Raise, Deep, done, end, one, then, first}
 use Rattle.pi_traces.specs.Control.{negated, collected, counted}
 use Rattle.pi_traces.proofs.LastLemmas.{Lasts, Falls, Any, any-falls, less-left, done-lasts, raise-lasts, one-lasts, then-lasts, first-lasts, negated-lasts, collected-lasts, counted-lasts}
-use Rattle.pi_meaning.specs.Shared.Level.{Level, Applied, or_applied, calls_at, LevelBelow}
+use Rattle.pi_meaning.specs.Shared.Level.{Level, Applied, or_applied, calls_at}
 use Rattle.pi_meaning.specs.Shared.Settle.{settled}
 use Rattle.pi_meaning.specs.CoreMeaning.Builtins.{function_by}
 use Rattle.pi_meaning.specs.CoreMeaning.Instances.{is_called_by_name}
@@ -19,11 +19,11 @@ use Rattle.pi_meaning.specs.CoreMeaning.Meaning.{slot_value, copyable}
 use Rattle.pi_meaning.specs.CoreMeaning.Quiet.{Callee, TicksBetween, Reaches, ReachesInAll, ReachesInAny, Passes, PassesAll, PassesAny}
 use Rattle.pi_meaning.proofs.CoreMeaning.MeaningLemmas.{as-many, count-of}
 use Rattle.pi_meaning.proofs.CoreMeaning.QuietGoals.{worth, counted as counts, worth-counted, Fits, callee, CallsLast, LevelLasts, calls-last, OptionLasts, BuiltinsLast, within-lasts, settled-lasts}
-use Rattle.pi_resume_spec.specs.Resumed.{Search, simple, sequence, alternatives, chosen_search, caught_search}
-use Rattle.pi_resume_spec.specs.Searches.{Searches, SearchLevel, bottom, above, plain_calls, plain_level, searches_at, Spot, Tries, without_paths, only, in_state, draining, strictly}
+use Rattle.pi_resume_spec.specs.Resumed.{Search, simple, sequence, alternatives, chosen_search}
+use Rattle.pi_resume_spec.specs.Searches.{Searches, SearchLevel, bottom, above, plain_calls, plain_level, searches_at, Spot, Tries, only, in_state, draining, strictly}
 use Rattle.pi_resume_spec.specs.ByName.{Offers, or_searched, handled_in, handling}
 use Rattle.pi_resume_spec.specs.Goals.{with_slot, after_arguments, after_term, succeeding, failing, ticking, predicate_by, calling, applying, with_list, strict, collecting, counting, catching, search, search_all, search_any}
-use Rattle.pi_resume_spec.proofs.LastLemmas.{SearchLasts, EachLasts, less-search, search-map, without-lasts, simple-lasts, only-lasts, sequence-lasts, AllLast, alternatives-lasts, HandlersLast, catch-lasts, tick-lasts, condition-lasts}
+use Rattle.pi_resume_spec.proofs.LastLemmas.{SearchLasts, less-search, search-map, without-lasts, simple-lasts, only-lasts, sequence-lasts, AllLast, alternatives-lasts, catch-lasts, tick-lasts, condition-lasts}
 
 -- ---- levels
 
@@ -153,7 +153,7 @@ ticking-at : (preds : List PredTree) (r : TicksBetween preds) (f d : ℕ) (l : S
 unfolding Lasts SearchLevelLasts plain_level
 ticking-at preds r f d (bottom c) p is h l =
     let none : d ≡ 0 = omega (arith, h) in
-    simple-lasts (Left preds r f ⊥) (left-falls preds r f ⊥) d (end Rattle.pi_traces.specs.Trace.Deep) (λ e. none)
+    simple-lasts (Left preds r f ⊥) (left-falls preds r f ⊥) d (end Deep) (λ e. none)
 ticking-at preds r f d (above c m) p is h l =
     let most : (worth (plain_level m) ≤ counts (plain_level m)) × (counts (plain_level m) ≤ suc (worth (plain_level m))) = worth-counted (plain_level m) in
     let q : Spot = record { level = m; slots = p.slots; state = p.state } in
@@ -296,9 +296,10 @@ all-map preds r f P Q g d (s ∷ more) a = (left-map preds r f P Q g d s a.0, al
 one-branch : (preds : List PredTree) (r : TicksBetween preds) (a : Tries) (b : Spot → List (Search Spot)) (R R' : Callee → Type 0) (P P' : Type 0) → Deepens preds r a R P → BranchesDeepen preds r b R' P' →
     BranchesDeepen preds r (λ p. a p ∷ b p) (λ c. R c ⊎ R' c) (P ⊎ P')
 unfolding Deepens BranchesDeepen AllLast
-one-branch preds r a b R R' P P' x y f fits d p h l =
-    (left-map preds r f P (P ⊎ P') (λ z. inl z) d (a p) (x f (λ c reach. fits c (inl reach)) d p h l),
-    all-map preds r f P' (P ⊎ P') (λ z. inr z) d (b p) (y f (λ c reach. fits c (inr reach)) d p h l))
+one-branch preds r a b R R' P P' x y f fits d p h l = (
+  left-map preds r f P (P ⊎ P') (λ z. inl z) d (a p) (x f (λ c reach. fits c (inl reach)) d p h l),
+  all-map preds r f P' (P ⊎ P') (λ z. inr z) d (b p) (y f (λ c reach. fits c (inr reach)) d p h l),
+)
 
 no-branch : (preds : List PredTree) (r : TicksBetween preds) → BranchesDeepen preds r (λ p. []) (λ c. ⊥) ⊥
 unfolding BranchesDeepen AllLast

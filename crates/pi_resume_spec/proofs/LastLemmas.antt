@@ -1,14 +1,13 @@
 -- Goals in both runs that come to Deep only past so many Ticks, however they are put together.
 use Rattle.std.specs.Prelude.{◌≡◌, ℕ, zero, suc, ◌-◌, ◌≤◌, Bool, true, false, List, [], ◌∷◌, ⊤, refl}
-use Rattle.std.proofs.Common.{arith, subst}
+use Rattle.std.proofs.Common.{arith, ap, subst}
 use Rattle.pi_terms.specs.Tree.{Tree}
-use Rattle.pi_traces.specs.Trace.{Trace, end, note, ans, End, Done, Raise, Abort, Miss, Deep, Note, Tick, Load, Out, done, one, alt, then}
-use Rattle.pi_traces.specs.Depth.{Ended, cut}
+use Rattle.pi_traces.specs.Trace.{Trace, end, note, ans, End, Done, Raise, Abort, Miss, Deep, Tick, Load, Out, done, one, alt, then}
 use Rattle.pi_traces.specs.Control.{caught}
 use Rattle.pi_traces.proofs.LastLemmas.{Lasts, Falls, less-left, lasts-map, done-lasts, one-lasts, alt-lasts, then-lasts, chosen-lasts, caught-lasts, cut-lasts}
 use Rattle.pi_resume_spec.specs.Ways.{Way, Ways, here, choosing, numbered, behind, followed_by, choice_from}
-use Rattle.pi_resume_spec.specs.Resumed.{a_tick, a_load, Following, on_way, reached, cut_off, bad, passed, stopped, Search, to_answer, simple, with_rest, follows_then, sequence, ways_of, taken_from, taken, alternatives, to_exception, with_handler, caught_at, caught_search, RuleSearch, rest_unless, rules_ways, on_first, bad_if, rules_taken, rules_followed, rules_search, ticked, chosen_search, resumed}
-use Rattle.pi_resume_spec.specs.ResumedCut.{stops, resumed_cut, ResumedWithoutDeep}
+use Rattle.pi_resume_spec.specs.Resumed.{a_tick, a_load, Following, on_way, reached, cut_off, bad, stopped, Search, to_answer, simple, with_rest, follows_then, sequence, ways_of, taken_from, taken, alternatives, to_exception, with_handler, caught_at, caught_search, RuleSearch, rest_unless, rules_ways, on_first, bad_if, rules_taken, rules_followed, rules_search, ticked, chosen_search, resumed}
+use Rattle.pi_resume_spec.specs.ResumedCut.{resumed_cut, ResumedWithoutDeep}
 use Rattle.pi_resume_spec.specs.ResumedWork.{stop_of}
 use Rattle.pi_resume_spec.specs.Searches.{without_paths}
 
@@ -312,7 +311,7 @@ resumed-lasts Ok d bad a = a
 -- a cut before Tick number n + 1 of what lasts so long
 pub resumed-cut_lasts : {A : Type 0} (Ok : ℕ → A → Type 0) (n : ℕ) (f : Following A) → FollowLasts Ok (suc n) f → ResumedWithoutDeep n f
 unfolding FollowLasts resumed_cut
-resumed-cut_lasts Ok n (reached made x left later) a = λ is. cut-lasts (OnWay Ok) n later a.1 (Rattle.std.proofs.Common.ap stop_of is)
+resumed-cut_lasts Ok n (reached made x left later) a = λ is. cut-lasts (OnWay Ok) n later a.1 (ap stop_of is)
 resumed-cut_lasts Ok n (cut_off Deep) a = λ is. let z : suc n ≡ 0 = a refl in omega (arith, z)
 resumed-cut_lasts Ok n (cut_off e) a = λ is. cc
 resumed-cut_lasts Ok n bad a = λ is. cc

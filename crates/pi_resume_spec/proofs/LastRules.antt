@@ -1,5 +1,5 @@
 -- Calls of a program last as long as their level is deep, in both runs, and so do queries: a depth of twice as many reaches past so many Ticks.
-use Rattle.std.specs.Prelude.{◌≡◌, ◌⊎◌, ℕ, zero, suc, ◌+◌, ◌-◌, ◌<◌, ◌≤◌, Bool, true, false, not, cond, List, [], ◌∷◌, ◌++◌, length, map, replicate, Option, Some, None, option_map, option_and_then, Contains, ⊤, refl}
+use Rattle.std.specs.Prelude.{◌≡◌, ℕ, zero, suc, ◌+◌, ◌-◌, ◌<◌, ◌≤◌, Bool, true, false, not, cond, List, [], ◌∷◌, ◌++◌, length, map, replicate, Option, Some, None, option_map, option_and_then, Contains, ⊤, refl}
 use Rattle.std.specs.List.{list_any}
 use Rattle.std.proofs.Common.{arith, sym, ◌∙◌, ap, subst, inl, inr}
 use Rattle.pi_terms.specs.Tree.{Tree, comp, Trees, tree_count}
@@ -12,7 +12,7 @@ use Rattle.pi_core.specs.declared.core_program.SlotWatch.{SlotWatch}
 use Rattle.pi_core.specs.declared.core_program.NameSlot.{NameSlot}
 use Rattle.pi_syntax.specs.declared.program.Mode.{Mode}
 use Rattle.pi_traces.specs.Trace.{Trace, end, Deep, done, one}
-use Rattle.pi_traces.proofs.LastLemmas.{Lasts, Any, any-falls, less-left, done-lasts, one-lasts}
+use Rattle.pi_traces.proofs.LastLemmas.{Lasts, Falls, Any, any-falls, less-left, done-lasts, one-lasts}
 use Rattle.pi_meaning.specs.Shared.Drain.{drained}
 use Rattle.pi_meaning.specs.Shared.Settle.{settled_from}
 use Rattle.pi_meaning.specs.Shared.Level.{Level, Applied}
@@ -23,15 +23,15 @@ use Rattle.pi_meaning.specs.CoreMeaning.Quiet.{Callee, TicksBetween, Reaches, Pa
 use Rattle.pi_meaning.specs.CoreMeaning.Rules as core
 use Rattle.pi_meaning.specs.CoreMeaning.Rules.{suspended, function_run, application_run}
 use Rattle.pi_meaning.specs.CoreMeaning.Run.{Solution, told}
-use Rattle.pi_meaning.proofs.CoreMeaning.QuietGoals.{worth, counted as counts, worth-counted, Fits, callee, within-lasts, settled-lasts}
-use Rattle.pi_resume_spec.specs.Resumed.{Search, simple, alternatives, chosen_search, RuleSearch, rules_search, resumed}
-use Rattle.pi_resume_spec.specs.Searches.{Searches, SearchLevel, bottom, above, level_with, plain_calls, plain_level, Spot, only, ticked_at, strictly}
+use Rattle.pi_meaning.proofs.CoreMeaning.QuietGoals.{worth-counted, Fits, callee, within-lasts, settled-lasts}
+use Rattle.pi_resume_spec.specs.Resumed.{Search, simple, alternatives, RuleSearch}
+use Rattle.pi_resume_spec.specs.Searches.{Searches, SearchLevel, bottom, above, level_with, plain_level, Spot, only, ticked_at, strictly}
 use Rattle.pi_resume_spec.specs.ByName.{Offers}
 use Rattle.pi_resume_spec.specs.Goals.{search}
 use Rattle.pi_resume_spec.specs.Rules.{guarded, applies_from, searched_by, rule_searches, rules_of, quiet_search, by_rules, body_or_agent, fact_search, pred_search, entered, call_search, searches_of, quiet_level, search_level}
 use Rattle.pi_resume_spec.specs.Queries.{solution, answered_with, query_start, query_search}
-use Rattle.pi_resume_spec.proofs.LastLemmas.{SearchLasts, EachLasts, less-search, simple-lasts, only-lasts, sequence-lasts, AllLast, alternatives-lasts, RulesLast, rules-last, tick-lasts, condition-lasts}
-use Rattle.pi_resume_spec.proofs.LastGoals.{SearchesLast, depth_of, count_at, SearchLevelLasts, plain-lasts, OffersLast, Left, left-falls, Deepens, onward, strictly-deepens, strict-lasts, goal-deepens}
+use Rattle.pi_resume_spec.proofs.LastLemmas.{SearchLasts, less-search, none-search, simple-lasts, only-lasts, sequence-lasts, AllLast, alternatives-lasts, RulesLast, rules-last, tick-lasts, condition-lasts}
+use Rattle.pi_resume_spec.proofs.LastGoals.{SearchesLast, depth_of, count_at, SearchLevelLasts, plain-lasts, OffersLast, Left, onward, strictly-deepens, strict-lasts, goal-deepens}
 use Rattle.pi_resume_spec.proofs.LastFunctions.{ClauseFits, function-lasts}
 
 -- ---- rules
@@ -66,14 +66,16 @@ each-rule : (preds : List PredTree) (r : TicksBetween preds) (b : Offers) → Of
 unfolding rule_searches RulesLast BodiesLast
 each-rule preds r b lasting f d l h last back body all i [] fits ts s = tt
 each-rule preds r b lasting f d l h last back body all i (c ∷ cs) fits ts s =
-    let this : ClauseFits preds r f c = fits c (0, omega arith, refl) in
-    (record {
-      there = Left preds r f (Passes c.guard);
-      applies = applies-lasts preds r b lasting f d l h last c this s (matched_all_in (bindings s) c.head ts (replicate c.slots None));
-      body = λ k q m o. all i c this k q o;
-    }, each-rule preds r b lasting f d l h last back body all (suc i) cs (λ x within. let few = within.1 in fits x (suc within.0, omega (arith, few), within.2)) ts s)
+    let this : ClauseFits preds r f c = fits c (0, omega arith, refl) in (
+      record {
+        there = Left preds r f (Passes c.guard);
+        applies = applies-lasts preds r b lasting f d l h last c this s (matched_all_in (bindings s) c.head ts (replicate c.slots None));
+        body = λ k q m o. all i c this k q o;
+      },
+      each-rule preds r b lasting f d l h last back body all (suc i) cs (λ x within. let few = within.1 in fits x (suc within.0, omega (arith, few), within.2)) ts s,
+    )
 
-quiet-rules : {X A : Type 0} (Ok : ℕ → A → Type 0) → Rattle.pi_traces.proofs.LastLemmas.Falls Ok → (d : ℕ) (rs : List (RuleSearch X A)) → RulesLast Ok d rs → SearchLasts Ok d (quiet_search rs)
+quiet-rules : {X A : Type 0} (Ok : ℕ → A → Type 0) → Falls Ok → (d : ℕ) (rs : List (RuleSearch X A)) → RulesLast Ok d rs → SearchLasts Ok d (quiet_search rs)
 unfolding RulesLast quiet_search
 quiet-rules Ok h d [] a = simple-lasts Ok h d done (done-lasts Ok d)
 quiet-rules Ok h d (r ∷ rs) a = condition-lasts a.0.there Ok h d r.applies r.body (quiet_search rs) a.0.applies a.0.body (quiet-rules Ok h d rs a.1)
@@ -141,7 +143,7 @@ RunsLast preds r pred run =
     (k d : ℕ) (l : SearchLevel) → d ≤ depth_of l → SearchLevelLasts preds r k l → ((x : ClauseTree) → Contains pred.clauses x → ClauseFits preds r k x) → SearchLasts Any d (run l)
 
 deep-lasts : (d : ℕ) → d ≤ 0 → SearchLasts {A = State} Any d (simple (end Deep))
-deep-lasts d h = Rattle.pi_resume_spec.proofs.LastLemmas.none-search d (simple (end Deep)) h
+deep-lasts d h = none-search d (simple (end Deep)) h
 
 ticked-lasts : (preds : List PredTree) (r : TicksBetween preds) (below : Option SearchLevel) → BelowLasts preds r below → (pred : PredTree) (run : SearchLevel → Search State) → RunsLast preds r pred run →
     SearchLasts Any (counted_over below) (ticked_at below run)

@@ -29,3 +29,4 @@ pub mod LastLemmas
 pub mod LastGoals
 pub mod LastFunctions
 pub mod LastRules
+pub mod LastNames

@@ -1,5 +1,5 @@
 -- More depth only adds to labelling, `solve` and draining, in both runs.
-use Rattle.std.specs.Prelude.{◌≡◌, ℕ, zero, suc, ℤ, List, [], ◌∷◌, map, Option, Some, None, codes}
+use Rattle.std.specs.Prelude.{◌≡◌, ℕ, zero, suc, ℤ, List, [], ◌∷◌, Option, Some, None, codes}
 use Rattle.pi_constraints.specs.State.{State, Agent, with_waiting, with_ended}
 use Rattle.pi_constraints.specs.declared.constraint.Item.{Item}
 use Rattle.pi_constraints.specs.declared.event.Activation.{Activation}

@@ -124,11 +124,15 @@ abbrev pub SoundQueriesTellPaths : Type 0
 SoundQueriesTellPaths = (most : ℕ) (v : View) (program : List PredTree) (q : QueryTree) → IsSoundQuery program q → (n : ℕ) →
     (c : Cut (Way Solution)) × IsPathRunUnder most (all_names v nothing_later (program ++ q.helpers)) program q n c
 
--- and its resumed run behind each answer that the run tells
-abbrev pub ToldAnswersAreResumed : Type 0
-ToldAnswersAreResumed = (most : ℕ) (v : View) (program : List PredTree) (q : QueryTree) → IsSoundQuery program q → (d : ℕ) (w : Way Solution) (rest : Ways Solution) →
-    At (path_trace most (all_names v nothing_later (program ++ q.helpers)) program q d) w rest → (n : ℕ) →
-    (c : ResumedCut (Way Solution)) × IsResumedRunUnder most (all_names v nothing_later (program ++ q.helpers)) program q w.path n c
+-- and its resumed run from each path
+abbrev pub SoundQueriesAreResumed : Type 0
+SoundQueriesAreResumed = (most : ℕ) (v : View) (program : List PredTree) (q : QueryTree) → IsSoundQuery program q → (path : List ℕ) (n : ℕ) →
+    (c : ResumedCut (Way Solution)) × IsResumedRunUnder most (all_names v nothing_later (program ++ q.helpers)) program q path n c
+
+-- and so that has a depth that reaches to the cut, as a query, under each log
+abbrev pub SoundQueriesReach : Type 0
+SoundQueriesReach = (program : List PredTree) (q : QueryTree) → IsSoundQuery program q → (path : List ℕ) (steps : ℕ) (log : List LogEntry) →
+    (depth : ℕ) × ReachesToCut (query_behind nothing_later program q path steps) log depth
 
 -- ---- the work of a resumed run
 
