@@ -1,13 +1,13 @@
 -- Lemmas on resumed runs that are cut.
-use Rattle.std.specs.Prelude.{◌≡◌, ◌≢◌, ℕ, zero, suc, ◌+◌, ◌≤◌, List, [], ◌∷◌, ◌++◌, refl}
-use Rattle.std.proofs.Common.{arith, sym, ◌∙◌, ap}
-use Rattle.pi_traces.specs.Trace.{End, Deep}
-use Rattle.pi_traces.specs.Depth.{Stop, Ended, cut}
+use Rattle.std.specs.Prelude.{◌≡◌, ℕ, zero, suc, ◌+◌, ◌≤◌, List, refl}
+use Rattle.std.proofs.Common.{arith, ◌∙◌, ap}
+use Rattle.pi_traces.specs.Trace.{End}
+use Rattle.pi_traces.specs.Depth.{Ended, cut}
 use Rattle.pi_traces.proofs.CutLemmas.{cut-below}
-use Rattle.pi_resume_spec.specs.Ways.{Way, Ways}
-use Rattle.pi_resume_spec.specs.Resumed.{Passing, a_tick, a_load, Following, on_way, reached, cut_off, bad, Leads}
-use Rattle.pi_resume_spec.specs.ResumedCut.{stops, bad_path, with_passing, behind_way, resumed_cut, ResumedWithoutDeep, passings, ticks_among, with_passings, IsBad, IsCutOff}
-use Rattle.pi_resume_spec.specs.More.{FollowsBelow, deeper_way, same_way, same_reached, same_cut, same_bad}
+use Rattle.pi_resume_spec.specs.Ways.{Ways}
+use Rattle.pi_resume_spec.specs.Resumed.{a_tick, a_load, Following, on_way, reached, cut_off, bad, Leads}
+use Rattle.pi_resume_spec.specs.ResumedCut.{stops, bad_path, with_passing, behind_way, resumed_cut, passings, ticks_among, with_passings, IsBad, IsCutOff}
+use Rattle.pi_resume_spec.specs.More.{deeper_way, same_way, same_reached, same_cut, same_bad}
 use Rattle.pi_resume_spec.specs.RunLaws.{SpentOnTheWay, CutBehindTheWay, BadExactlyAtTheEnd, EndsOnTheWay, MoreDepthLeavesCuts}
 
 pub spent-on_way : {A : Type 0} → SpentOnTheWay A

@@ -7,7 +7,7 @@ use Rattle.pi_constraints.specs.HeadMatch.{matched_all_in}
 use Rattle.pi_core.specs.GoalTree.{GoalTree, truth}
 use Rattle.pi_core.specs.CoreTree.{ClauseTree, PredTree}
 use Rattle.pi_traces.specs.Trace.{Trace, Done, Tick, one}
-use Rattle.pi_traces.specs.Depth.{Below}
+use Rattle.pi_traces.specs.Depth.{Below, same_end}
 use Rattle.pi_traces.specs.Related.{BelowBy, deeper_by, end_by, note_by}
 use Rattle.pi_traces.proofs.RelatedLemmas.{Same, below-by, by-same, by-one, by-then, by-chosen}
 use Rattle.pi_meaning.specs.Shared.Raise.{raised_with}
@@ -68,7 +68,7 @@ entered-more false inner inner' (Some l) (Some m) h k f a = note_by Tick (a l m 
 
 pub application-more : (b : Builtins) → BuiltinsOnlyAdd b → (inner inner' below below' : Option Level) → OptionalLevel inner inner' → OptionalLevel below below' → (found : Option PredTree) (ts : Trees) (s : State) →
     Below (application_run b inner below found ts s) (application_run b inner' below' found ts s)
-application-more b adds inner inner' below below' h k None ts s = Rattle.pi_traces.specs.Depth.same_end Done
+application-more b adds inner inner' below below' h k None ts s = same_end Done
 application-more b adds inner inner' below below' h k (Some pred) ts s =
     below-by (entered pred.quiet inner below (λ l. function_run b l pred ts s)) (entered pred.quiet inner' below' (λ l. function_run b l pred ts s))
     (entered-more pred.quiet inner inner' below below' h k (λ l. function_run b l pred ts s) (λ l m a. function-more b adds l m a pred ts s))

@@ -82,7 +82,7 @@ run_of (reached made x left later) = here made (slot_value 0 x.slots x.state) �
 run_of (cut_off e) = ends e ∷ []
 run_of bad = bad_path ∷ []
 
-abbrev query : GoalTree → ℕ → QueryTree
+abbrev pub query : GoalTree → ℕ → QueryTree
 query g slots = record { goal = g; helpers = []; names = []; slots = slots }
 
 unfoldable trace : List PredTree → GoalTree → ℕ → ℕ → List Step
@@ -93,55 +93,55 @@ unfoldable from : List PredTree → GoalTree → ℕ → ℕ → List ℕ → Li
 unfolding steps_of run_of query_search search draining strictly calling applying collecting counting catching pred_search rule_searches quiet_search searches_of quiet_level search_level predicate_given predicate_called called_at_level first_called rules_ways choice_from rules_taken with_rest follows_then taken_from to_answer on_first to_exception with_handler resumed later_predicates is_later_predicate told find_pred built_in_predicate built_in_function tests comparing_tests kind_tests writing_predicates other_predicates reading_functions integer_functions collection_functions sorting_functions index_functions range_functions naming_functions text_functions making_functions done_by list_of_copies new_in_all with_new_variables then alt first chosen negated caught collected counted evaluated evaluated_all matched_in matched_all_in drained settled settlement is_unchanged are_unchanged settlement_of_goal stable_state passes runs_of loaded count_due same_domain events_from variable_events activations activations_from thrown exception_with raised_with copy occurrences firsts all_unified unified_for outcome assigned joined in_pairs most_pairs unbound_in cells_of_pairs cells value rounds instance followed followed_for order tree_count fits_modes fact_term fact_terms watch_trees function_given value_of written atom_text each_tree is_predicate has_line
 from program g slots d path = run_of (resumed_query (all_names (query_view []) nothing_later program) program (query g slots) d path)
 
-abbrev equal : Tree → Tree → GoalTree
+abbrev pub equal : Tree → Tree → GoalTree
 equal a b = call (codes "=") (a ∷ b ∷ [])
 
-abbrev n : ℕ → Tree
+abbrev pub n : ℕ → Tree
 n i = int (pos i)
 
-abbrev is : ℕ → ℕ → GoalTree
+abbrev pub is : ℕ → ℕ → GoalTree
 is k i = equal (var k) (n i)
 
-abbrev patterns : List PatternTree → PatternTrees
+abbrev pub patterns : List PatternTree → PatternTrees
 patterns [] = no_patterns
 patterns (p ∷ ps) = pattern p (patterns ps)
 
-abbrev rule : List PatternTree → GoalTree → Bool → GoalTree → ℕ → ClauseTree
+abbrev pub rule : List PatternTree → GoalTree → Bool → GoalTree → ℕ → ClauseTree
 rule head guard back body slots = record { head = patterns head; guard = guard; back = back; watches = []; body = body; value = None; slots = slots }
 
-abbrev predicate : List ℕ → ℕ → List ClauseTree → PredTree
+abbrev pub predicate : List ℕ → ℕ → List ClauseTree → PredTree
 predicate name k clauses = record { name = name; arity = k; function = false; quiet = false; index = None; clauses = clauses }
 
-abbrev goals : List GoalTree → Rattle.pi_core.specs.GoalTree.GoalTrees
+abbrev pub goals : List GoalTree → Rattle.pi_core.specs.GoalTree.GoalTrees
 goals [] = no_goals
 goals (g ∷ gs) = goal g (goals gs)
 
 abbrev alternatives_of : List GoalTree → GoalTree
 alternatives_of gs = Rattle.pi_core.specs.GoalTree.alternatives (goals gs)
 
-abbrev cell : PatternTree → PatternTree → PatternTree
+abbrev pub cell : PatternTree → PatternTree → PatternTree
 cell x rest = compound (codes "[|]") (pattern x (pattern rest no_patterns))
 
-abbrev list_of : List Tree → Tree
+abbrev pub list_of : List Tree → Tree
 list_of [] = atom (codes "[]")
 list_of (t ∷ ts) = comp (codes "[|]") (tree t (tree (list_of ts) no_trees))
 
-abbrev a : Tree
+abbrev pub a : Tree
 a = atom (codes "a")
 
-abbrev b : Tree
+abbrev pub b : Tree
 b = atom (codes "b")
 
-abbrev c : Tree
+abbrev pub c : Tree
 c = atom (codes "c")
 
 -- member(X,[Y|_]) ?=> X = Y.  member(X,[_|L]) => member(X,L).
-abbrev member : List PredTree
+abbrev pub member : List PredTree
 member = predicate (codes "member") 2
     (rule (slot 0 ∷ cell (slot 1) (slot 2) ∷ []) truth true (equal (var 0) (var 1)) 3
     ∷ rule (slot 0 ∷ cell (slot 1) (slot 2) ∷ []) truth false (call (codes "member") (var 0 ∷ var 2 ∷ [])) 3 ∷ []) ∷ []
 
-abbrev member_goal : GoalTree
+abbrev pub member_goal : GoalTree
 member_goal = call (codes "member") (var 0 ∷ list_of (a ∷ b ∷ c ∷ []) ∷ [])
 
 -- between(L,U,X), L =< U ?=> X = L.  between(L,U,X), L < U => between(L+1,U,X).
@@ -165,10 +165,10 @@ unfolding trace from
 rows = (refl, refl, refl, refl, refl, refl)
 
 -- p(X) ?=> X = 1.  p(X) => X = 2.
-abbrev p : List PredTree
+abbrev pub p : List PredTree
 p = predicate (codes "p") 1 (rule (slot 0 ∷ []) truth true (is 0 1) 1 ∷ rule (slot 0 ∷ []) truth false (is 0 2) 1 ∷ []) ∷ []
 
-abbrev p_of : Tree → GoalTree
+abbrev pub p_of : Tree → GoalTree
 p_of t = call (codes "p") (t ∷ [])
 
 -- q() => true. ; a rule whose condition ticks and writes: r(X), q, print(a) ?=> X = 1.  r(X) => X = 2.
@@ -271,3 +271,18 @@ forms-others :
     × (trace p (if_else (p_of (var 0)) (alternatives_of (truth ∷ truth ∷ [])) fail) 1 4 ≡ saw Tick ∷ at (1 ∷ []) (n 1) ∷ at (2 ∷ []) (n 1) ∷ ends Done ∷ [])
 unfolding trace from
 forms-others = (refl, refl, refl, refl, refl, refl, refl, refl, refl, refl, refl, refl, refl, refl, refl, refl, refl, refl, refl)
+
+-- An arrow is no choice. (fail -> X = 1 ; X = 2 ; X = 3) is an `if` whose other side has the branches 1 and 2; in (X = 1 ; fail -> X = 2 ; X = 3 ; X = 4) it is branch 2 of the whole.
+abbrev arrow_first : GoalTree
+arrow_first = if_else fail (is 0 1) (alternatives_of (is 0 2 ∷ is 0 3 ∷ []))
+
+abbrev arrow_later : GoalTree
+arrow_later = alternatives_of (is 0 1 ∷ if_else fail (is 0 2) (alternatives_of (is 0 3 ∷ is 0 4 ∷ [])) ∷ [])
+
+arrows :
+    (trace [] arrow_first 1 0 ≡ at (1 ∷ []) (n 2) ∷ at (2 ∷ []) (n 3) ∷ ends Done ∷ [])
+    × (from [] arrow_first 1 0 (1 ∷ []) ≡ here (1 ∷ []) (n 2) ∷ at (2 ∷ []) (n 3) ∷ ends Done ∷ [])
+    × (from [] arrow_first 1 0 (3 ∷ []) ≡ bad_path ∷ [])
+    × (trace [] arrow_later 1 0 ≡ at (1 ∷ []) (n 1) ∷ at (2 ∷ 1 ∷ []) (n 3) ∷ at (2 ∷ 2 ∷ []) (n 4) ∷ ends Done ∷ [])
+unfolding trace from
+arrows = (refl, refl, refl, refl)

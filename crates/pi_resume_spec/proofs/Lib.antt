@@ -22,3 +22,11 @@ pub mod FunctionsMore
 pub mod MoreRules
 pub mod MoreNames
 pub mod PathRunLemmas
+pub mod RunExamples
+pub mod EachRun
+pub mod MoreStages
+pub mod LastLemmas
+pub mod LastGoals
+pub mod LastFunctions
+pub mod LastRules
+pub mod LastNames

@@ -1,14 +1,12 @@
 -- Lemmas on paths that are too long.
-use Rattle.std.specs.Prelude.{◌≡◌, ℕ, zero, suc, ◌<◌, ◌≤◌, Bool, true, false, cond, nat_lt, List, [], ◌∷◌, length, All, ⊤, refl}
+use Rattle.std.specs.Prelude.{◌≡◌, ℕ, zero, suc, ◌<◌, Bool, true, false, cond, nat_lt, List, [], ◌∷◌, length, All, ⊤, refl}
 use Rattle.std.proofs.Common.{arith, sym, ◌∙◌, ap, subst, inl, inr}
 use Rattle.std.proofs.lemmas.Bool.{lt-ltb, le-ltb, ltb-false}
-use Rattle.pi_traces.specs.Trace.{Trace, end, note, ans, Tick, done, Emitted, noted, answered, emit, answers}
+use Rattle.pi_traces.specs.Trace.{end, note, ans, done, Emitted, noted, answered, emit, answers}
 use Rattle.pi_traces.specs.Depth.{Below, deeper, same_end, same_note, same_answer}
-use Rattle.pi_traces.proofs.BelowLemmas.{below-refl}
 use Rattle.pi_resume_spec.specs.Ways.{Way, Ways}
 use Rattle.pi_resume_spec.specs.Resumed.{Following, on_way, reached, cut_off, bad, At, at_first, past_note, past_answer, Leads}
 use Rattle.pi_resume_spec.specs.Longest.{path_too_long, told_paths, told_behind}
-use Rattle.pi_resume_spec.specs.ResumedCut.{passings}
 use Rattle.pi_resume_spec.specs.More.{FollowsBelow, deeper_way, same_way, same_reached, same_cut, same_bad}
 use Rattle.pi_resume_spec.specs.RunLaws.{IsShort, ToldPathsAreShort, ShortPathsAreTold, TheFirstLongPathEnds}
 use Rattle.pi_resume_spec.proofs.ResumedLemmas.{Begun, begun}

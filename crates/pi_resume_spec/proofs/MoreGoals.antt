@@ -1,6 +1,6 @@
 -- More depth only adds to each goal of the core language, in both runs.
-use Rattle.std.specs.Prelude.{◌≡◌, ℕ, List, [], ◌∷◌, Option, Some, None, pos, slice_set, refl}
-use Rattle.pi_terms.specs.Tree.{Tree, int, Trees, trees_of}
+use Rattle.std.specs.Prelude.{ℕ, List, Option, Some, None, pos, slice_set}
+use Rattle.pi_terms.specs.Tree.{Tree, int, trees_of}
 use Rattle.pi_terms.specs.Places.{Places}
 use Rattle.pi_terms.specs.Copy.{copy, new_variables}
 use Rattle.pi_constraints.specs.State.{State, next}
@@ -17,12 +17,12 @@ use Rattle.pi_meaning.specs.Shared.Level.{LevelBelow, CallsBelow}
 use Rattle.pi_meaning.specs.Shared.Settle.{settled}
 use Rattle.pi_meaning.specs.CoreMeaning.Builtins.{function_by}
 use Rattle.pi_meaning.specs.CoreMeaning.Meaning.{slot_value, copyable}
-use Rattle.pi_resume_spec.specs.Resumed.{Search, simple, alternatives, chosen_search, caught_search}
-use Rattle.pi_resume_spec.specs.Searches.{Searches, SearchLevel, bottom, above, plain_calls, plain_level, searches_at, Spot, Tries, without_paths, only, in_state, draining, strictly}
+use Rattle.pi_resume_spec.specs.Resumed.{Search, simple, alternatives, chosen_search}
+use Rattle.pi_resume_spec.specs.Searches.{Searches, SearchLevel, bottom, above, plain_calls, plain_level, searches_at, Spot, Tries, without_paths, only, draining, strictly}
 use Rattle.pi_resume_spec.specs.ByName.{Offers, handled_in, handling}
 use Rattle.pi_resume_spec.specs.Goals.{with_slot, succeeding, failing, ticking, predicate_by, calling, applying, with_list, strict, collecting, counting, catching, search, search_all, search_any}
 use Rattle.pi_resume_spec.specs.More.{SearchBelow, SearchesBelow, SearchLevelBelow, OffersOnlyAdd}
-use Rattle.pi_resume_spec.proofs.MoreLemmas.{SearchBy, search-by, search-itself, without-by, simple-by, only-by, deep-by, SearchesBy, sequence-by, sequence-same, AllBy, alternatives-by, HandlersBy, caught-by, ticked-by, chosen-by}
+use Rattle.pi_resume_spec.proofs.MoreLemmas.{SearchBy, search-itself, without-by, simple-by, only-by, deep-by, SearchesBy, sequence-by, sequence-same, AllBy, alternatives-by, HandlersBy, caught-by, ticked-by, chosen-by}
 
 -- ---- levels and places
 

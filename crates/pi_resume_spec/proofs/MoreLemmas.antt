@@ -1,12 +1,13 @@
 -- More depth only adds to goals in both runs, however they are put together; their answers stand in a relation.
-use Rattle.std.specs.Prelude.{◌≡◌, ℕ, zero, suc, Bool, true, false, List, [], ◌∷◌, ◌++◌, ⊤, refl}
+use Rattle.std.specs.Prelude.{◌≡◌, ℕ, zero, suc, Bool, true, false, List, [], ◌∷◌, ◌++◌, ⊤}
 use Rattle.pi_terms.specs.Tree.{Tree}
-use Rattle.pi_traces.specs.Trace.{Trace, end, End, Done, Raise, Abort, Miss, Deep, Note, Tick, Load, Out, done, one, alt, then}
-use Rattle.pi_traces.specs.Control.{caught, chosen}
+use Rattle.pi_traces.specs.Trace.{Trace, end, ans, End, Done, Raise, Abort, Miss, Deep, Note, Tick, Load, Out, done, one, alt, then}
+use Rattle.pi_traces.specs.Control.{caught}
 use Rattle.pi_traces.specs.Depth.{Below, deeper, same_end, same_note, same_answer}
 use Rattle.pi_traces.specs.Related.{BelowBy, deeper_by, end_by, note_by, answer_by}
-use Rattle.pi_traces.proofs.RelatedLemmas.{Same, same, by-refl, by-one, by-alt, by-then, by-chosen, by-caught}
-use Rattle.pi_resume_spec.specs.Ways.{Way, Ways, choosing, numbered, behind, followed_by, choice_from}
+use Rattle.pi_traces.proofs.BelowLemmas.{below-refl}
+use Rattle.pi_traces.proofs.RelatedLemmas.{Same, same, by-one, by-alt, by-then, by-chosen, by-caught}
+use Rattle.pi_resume_spec.specs.Ways.{Way, Ways, here, choosing, numbered, behind, followed_by, choice_from}
 use Rattle.pi_resume_spec.specs.Resumed.{Passing, a_tick, a_load, Following, on_way, reached, cut_off, bad, passed, stopped, Search, to_answer, simple, with_rest, follows_then, sequence, ways_of, taken_from, taken, alternatives, to_exception, with_handler, caught_at, caught_search, RuleSearch, rest_unless, rules_ways, on_first, bad_if, rules_taken, rules_followed, rules_search, ticked, chosen_search, resumed}
 use Rattle.pi_resume_spec.specs.Searches.{without_paths}
 use Rattle.pi_resume_spec.specs.More.{FollowsBelow, deeper_way, same_way, same_reached, same_cut, same_bad, SearchBelow}
@@ -35,7 +36,7 @@ pub record SearchBy {A B : Type 0} (R : A → B → Type 0) (s : Search A) (t : 
 way-same : {A : Type 0} (w : Way A) → WayBy Same w w
 way-same w = same_path w.path (same w.answer)
 
-same-way : {A : Type 0} (w v : Way A) (t u : Ways A) → WayBy Same w v → Below t u → Below (Rattle.pi_traces.specs.Trace.ans w t) (Rattle.pi_traces.specs.Trace.ans v u)
+same-way : {A : Type 0} (w v : Way A) (t u : Ways A) → WayBy Same w v → Below t u → Below (ans w t) (ans v u)
 same-way _ _ t u (same_path p (same x)) a = same_answer (record { path = p; answer = x }) a
 
 pub ways-below : {A : Type 0} (t u : Ways A) → BelowBy (WayBy Same) t u → Below t u
@@ -75,12 +76,12 @@ search-by s t h = record { ways = ways-by s.ways t.ways h.ways; follows = λ p. 
 
 pub follows-itself : {A : Type 0} (f : Following A) → FollowsBelow f f
 follows-itself (on_way p f) = same_way p (follows-itself f)
-follows-itself (reached made x left later) = same_reached made x left (Rattle.pi_traces.proofs.BelowLemmas.below-refl later)
+follows-itself (reached made x left later) = same_reached made x left (below-refl later)
 follows-itself (cut_off e) = same_cut e
 follows-itself bad = same_bad
 
 pub search-itself : {A : Type 0} (s : Search A) → SearchBelow s s
-search-itself s = record { ways = Rattle.pi_traces.proofs.BelowLemmas.below-refl s.ways; follows = λ p. follows-itself (s.follows p) }
+search-itself s = record { ways = below-refl s.ways; follows = λ p. follows-itself (s.follows p) }
 
 pub itself-by : {A : Type 0} (s : Search A) → SearchBy Same s s
 itself-by s = search-by s s (search-itself s)
@@ -136,9 +137,9 @@ passed-by R (Load k) f g a = way_by (a_load k) a
 passed-by R (Out text) f g a = a
 
 straight-by : {A B : Type 0} (R : A → B → Type 0) (t : Trace A) (u : Trace B) → BelowBy R t u →
-    BelowBy (WayBy R) (then t (λ x. Rattle.pi_resume_spec.specs.Ways.here x)) (then u (λ x. Rattle.pi_resume_spec.specs.Ways.here x))
+    BelowBy (WayBy R) (then t (λ x. here x)) (then u (λ x. here x))
 straight-by R t u a =
-    by-then R (WayBy R) t u (λ x. Rattle.pi_resume_spec.specs.Ways.here x) (λ x. Rattle.pi_resume_spec.specs.Ways.here x) a
+    by-then R (WayBy R) t u (λ x. here x) (λ x. here x) a
     (λ x y r. by-one (WayBy R) (record { path = []; answer = x }) (record { path = []; answer = y }) (same_path [] r))
 
 to-answer : {A B : Type 0} (R : A → B → Type 0) (p : List ℕ) (t : Trace A) (u : Trace B) → BelowBy R t u → FollowsBy R (to_answer p t) (to_answer p u)

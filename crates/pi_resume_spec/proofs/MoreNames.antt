@@ -1,5 +1,5 @@
 -- More depth only adds to calls by name, in both runs, where it does to what later stages give, as it does where none is there.
-use Rattle.std.specs.Prelude.{◌≡◌, ℕ, Bool, true, false, cond, List, [], Option, Some, None, option_map, codes, ⊤, refl}
+use Rattle.std.specs.Prelude.{ℕ, Bool, true, false, cond, List, [], Option, Some, None, codes, ⊤}
 use Rattle.std.specs.Option.{option_or}
 use Rattle.pi_terms.specs.Tree.{Tree, Trees, no_trees, tree, tree_count}
 use Rattle.pi_terms.specs.Copy.{copy, new_variables}
@@ -8,19 +8,17 @@ use Rattle.pi_constraints.specs.Unify.{unified}
 use Rattle.pi_constraints.specs.Evaluation.{with_new_variables}
 use Rattle.pi_core.specs.CoreTree.{PredTree}
 use Rattle.pi_effects.specs.Items.{each_tree}
-use Rattle.pi_effects.specs.Effect.{Effect}
 use Rattle.pi_effects.specs.Exception.{type_error}
 use Rattle.pi_traces.specs.Trace.{end, Raise, done}
 use Rattle.pi_traces.proofs.RelatedLemmas.{Same, by-below}
 use Rattle.pi_meaning.specs.Shared.View.{View}
 use Rattle.pi_meaning.specs.Shared.Names.{is_later_predicate, is_planner, is_catch, is_call}
 use Rattle.pi_meaning.specs.Shared.Calls.{Called, called_by, unknown_name, is_known}
-use Rattle.pi_meaning.specs.CoreMeaning.Instances.{no_later}
 use Rattle.pi_meaning.proofs.Shared.CallLemmas.{no-later-adds, whole-adds}
 use Rattle.pi_resume_spec.specs.Resumed.{Search, simple, sequence, ticked}
 use Rattle.pi_resume_spec.specs.Searches.{SearchLevel, bottom, above, searches_at, plain_level, too_deep}
-use Rattle.pi_resume_spec.specs.ByName.{LaterSearches, is_solve, later_search, SearchSetting, plain_setting, or_searched, built_in, given_later, predicate_given, predicate_called, handling, with_planner, known_called, Deeper, call_goal, catch_called, again_called, name_called, term_called, called_at_level, called_below, first_called, search_setting, all_names, predicate_or_call}
-use Rattle.pi_resume_spec.specs.More.{SearchBelow, SearchLevelBelow, OffersOnlyAdd, LaterSearchesAdd}
+use Rattle.pi_resume_spec.specs.ByName.{LaterSearches, is_solve, later_search, SearchSetting, plain_setting, or_searched, built_in, given_later, predicate_given, predicate_called, handling, with_planner, known_called, Deeper, call_goal, catch_called, again_called, name_called, term_called, called_at_level, called_below, first_called, search_setting, predicate_or_call}
+use Rattle.pi_resume_spec.specs.More.{SearchBelow, SearchLevelBelow, LaterSearchesAdd}
 use Rattle.pi_resume_spec.specs.RunLaws.{NamesOnlyAdd, NothingLaterAdds}
 use Rattle.pi_resume_spec.proofs.MoreLemmas.{SearchBy, search-below, search-by, search-itself, simple-by, deep-by, sequence-same, HandlersBy, caught-by, ticked-by}
 use Rattle.pi_resume_spec.proofs.MoreGoals.{searches-below, plain-below, handled-more}

@@ -1,7 +1,6 @@
 -- More depth only adds to calls of a program, to its levels, and to queries, in both runs.
-use Rattle.std.specs.Prelude.{◌≡◌, ℕ, zero, suc, ◌+◌, ◌≤◌, Bool, true, false, cond, List, [], ◌∷◌, ◌++◌, length, map, replicate, Option, Some, None, option_map, ⊤, refl}
+use Rattle.std.specs.Prelude.{ℕ, zero, suc, ◌+◌, ◌≤◌, Bool, true, false, List, [], ◌∷◌, ◌++◌, length, replicate, Option, Some, None, option_map, ⊤, refl}
 use Rattle.std.proofs.Common.{arith}
-use Rattle.std.specs.Prelude.{not as opposite}
 use Rattle.pi_terms.specs.Tree.{Tree, comp, Trees, tree_count}
 use Rattle.pi_terms.specs.Places.{Places}
 use Rattle.pi_constraints.specs.State.{State, bindings}
@@ -11,23 +10,21 @@ use Rattle.pi_core.specs.CoreTree.{backtracks, find_pred, ClauseTree, PredTree, 
 use Rattle.pi_core.specs.declared.core_program.SlotWatch.{SlotWatch}
 use Rattle.pi_core.specs.declared.core_program.NameSlot.{NameSlot}
 use Rattle.pi_syntax.specs.declared.program.Mode.{Mode}
-use Rattle.pi_traces.specs.Trace.{Trace, end, Done, Deep, done, one}
-use Rattle.pi_traces.specs.Depth.{Below}
+use Rattle.pi_traces.specs.Trace.{Done, done}
 use Rattle.pi_traces.specs.Related.{BelowBy, end_by}
-use Rattle.pi_traces.proofs.RelatedLemmas.{Same, same, by-same, by-one}
+use Rattle.pi_traces.proofs.RelatedLemmas.{Same, same, by-one}
 use Rattle.pi_meaning.specs.Shared.Drain.{drained}
-use Rattle.pi_meaning.specs.Shared.Level.{Level}
-use Rattle.pi_meaning.specs.CoreMeaning.Rules.{suspended, application_run}
-use Rattle.pi_meaning.specs.CoreMeaning.Run.{Solution, told}
-use Rattle.pi_resume_spec.specs.Resumed.{Search, simple, sequence, chosen_search, RuleSearch, rules_search, resumed}
-use Rattle.pi_resume_spec.specs.Searches.{Searches, SearchLevel, bottom, above, level_with, plain_level, Spot, only, too_deep, strictly}
+use Rattle.pi_meaning.specs.CoreMeaning.Rules.{suspended}
+use Rattle.pi_meaning.specs.CoreMeaning.Run.{Solution}
+use Rattle.pi_resume_spec.specs.Resumed.{Search, simple, RuleSearch, resumed}
+use Rattle.pi_resume_spec.specs.Searches.{Searches, SearchLevel, level_with, plain_level, Spot, only, strictly}
 use Rattle.pi_resume_spec.specs.ByName.{Offers}
-use Rattle.pi_resume_spec.specs.Goals.{search, strict}
-use Rattle.pi_resume_spec.specs.Rules.{guarded, applies_from, RulesBy as RulesFor, searched_by, rule_searches, rules_of, quiet_search, by_rules, body_or_agent, facts_search, pred_search, entered, call_search, searches_of, quiet_level, search_level}
-use Rattle.pi_resume_spec.specs.Queries.{solution, answered_with, query_start, query_search, resumed_query}
+use Rattle.pi_resume_spec.specs.Goals.{search}
+use Rattle.pi_resume_spec.specs.Rules.{guarded, applies_from, searched_by, rule_searches, rules_of, quiet_search, by_rules, body_or_agent, facts_search, pred_search, entered, call_search, searches_of, quiet_level, search_level}
+use Rattle.pi_resume_spec.specs.Queries.{answered_with, query_start, query_search, resumed_query}
 use Rattle.pi_resume_spec.specs.More.{FollowsBelow, SearchBelow, SearchesBelow, SearchLevelBelow, OffersOnlyAdd}
-use Rattle.pi_resume_spec.proofs.MoreLemmas.{FollowsBy, SearchBy, search-below, search-by, search-itself, itself-by, follows-below, simple-by, only-by, deep-by, SearchesBy, sequence-by, RuleBy, RulesBy, rules-by, ticked-by, chosen-by, resumed-by}
-use Rattle.pi_resume_spec.proofs.MoreGoals.{plain-below, spot, SpotBelow, same_spot, IsMore, at-spots, strictly-more, strict-at-spots, goal-more}
+use Rattle.pi_resume_spec.proofs.MoreLemmas.{SearchBy, search-below, search-itself, itself-by, follows-below, simple-by, only-by, deep-by, SearchesBy, sequence-by, RulesBy, rules-by, ticked-by, chosen-by, resumed-by}
+use Rattle.pi_resume_spec.proofs.MoreGoals.{plain-below, spot, SpotBelow, same_spot, at-spots, strictly-more, strict-at-spots, goal-more}
 use Rattle.pi_resume_spec.proofs.FunctionsMore.{OptionalLevel, application-more}
 
 -- ---- rules

@@ -9,9 +9,9 @@ use Rattle.pi_traces.proofs.CutLemmas.{cut-below, depths-agree}
 use Rattle.pi_meaning.specs.Shared.View.{query_view}
 use Rattle.pi_meaning.specs.CoreMeaning.Run.{Solution}
 use Rattle.pi_solve_spec.specs.Counted.{loads_of}
-use Rattle.pi_resume_spec.specs.Resumed.{Passing, a_tick, a_load, Following, resumed, Leads}
-use Rattle.pi_resume_spec.specs.Longest.{told_paths, told_behind}
-use Rattle.pi_resume_spec.specs.ResumedCut.{ResumedCut, behind_way, resumed_cut, ResumedWithoutDeep, passings, ticks_among, with_passings}
+use Rattle.pi_resume_spec.specs.Resumed.{Passing, a_tick, a_load, Following, Leads}
+use Rattle.pi_resume_spec.specs.Longest.{told_behind}
+use Rattle.pi_resume_spec.specs.ResumedCut.{ResumedCut, behind_way, resumed_cut, ResumedWithoutDeep, passings, with_passings}
 use Rattle.pi_resume_spec.specs.ByName.{Offers, all_names}
 use Rattle.pi_resume_spec.specs.Queries.{query_search, resumed_query}
 use Rattle.pi_resume_spec.specs.PathRuns.{path_trace, resumed_trace}
@@ -60,7 +60,7 @@ paths-do_more b adds program q d = (query-more b adds program q d).ways
 pub queries-follow_more : QueriesFollowMore
 queries-follow_more b adds program q path d = resumed-more b adds program q path d
 
-told-deeper : (most : ℕ) (b : Offers) → OffersOnlyAdd b → (program : List PredTree) (q : QueryTree) → DepthOnlyAdds (path_trace most b program q)
+pub told-deeper : (most : ℕ) (b : Offers) → OffersOnlyAdd b → (program : List PredTree) (q : QueryTree) → DepthOnlyAdds (path_trace most b program q)
 told-deeper most b adds program q d = told-below most (query_search b program q d).ways (query_search b program q (suc d)).ways (paths-do_more b adds program q d)
 
 resumed-deeper : (most : ℕ) (b : Offers) → OffersOnlyAdd b → (program : List PredTree) (q : QueryTree) (path : List ℕ) → FollowsMore (resumed_trace most b program q path)

@@ -16,3 +16,4 @@ pub mod PathRuns
 pub mod ResumedWork
 pub mod More
 pub mod RunLaws
+pub mod StageMore

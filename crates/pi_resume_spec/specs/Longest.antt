@@ -2,7 +2,7 @@
 -- told, and of all that is behind it. How many those are is handed in; picatq's limit is that of the texts of paths. (Own.)
 use Rattle.std.specs.Prelude.{ℕ, cond, length, nat_lt, codes}
 use Rattle.pi_terms.specs.Tree.{atom}
-use Rattle.pi_traces.specs.Trace.{Trace, end, note, ans, End, Raise}
+use Rattle.pi_traces.specs.Trace.{end, note, ans, End, Raise}
 use Rattle.pi_resume_spec.specs.Ways.{Ways}
 use Rattle.pi_resume_spec.specs.Resumed.{Following, on_way, reached, cut_off, bad}
 

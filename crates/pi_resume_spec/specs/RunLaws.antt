@@ -2,9 +2,10 @@
 use Rattle.std.specs.Prelude.{◌≡◌, ◌≢◌, ℕ, suc, ◌+◌, ◌<◌, ◌≤◌, List, [], ◌++◌, length, All}
 use Rattle.pi_core.specs.CoreTree.{PredTree, QueryTree}
 use Rattle.pi_core.specs.declared.log.LogEntry.{LogEntry}
-use Rattle.pi_traces.specs.Trace.{Trace, end, ans, End, Call, Miss, done, Emitted, emit, answers}
-use Rattle.pi_traces.specs.Depth.{DepthOnlyAdds, Stop, Ended, Spent, Cut, cut}
+use Rattle.pi_traces.specs.Trace.{end, ans, End, Call, Miss, done, Emitted, emit, answers}
+use Rattle.pi_traces.specs.Depth.{DepthOnlyAdds, Ended, Spent, Cut, cut}
 use Rattle.pi_meaning.specs.Shared.View.{View, query_view}
+use Rattle.pi_meaning.specs.CoreMeaning.Sound.{IsSoundQuery}
 use Rattle.pi_meaning.specs.CoreMeaning.Run.{Solution}
 use Rattle.pi_solve_spec.specs.Calls.{ReachesToCut, Asks}
 use Rattle.pi_solve_spec.specs.Counted.{loads_of}
@@ -116,6 +117,22 @@ abbrev pub ToldPathsAreGood : Type 0
 ToldPathsAreGood = (most : ℕ) (v : View) (later : LaterSearches) → IsLater later → (program : List PredTree) (q : QueryTree) (d : ℕ) (w : Way Solution) (rest : Ways Solution) →
     At (path_trace most (all_names v later (program ++ q.helpers)) program q d) w rest → (n : ℕ) →
     (resumed_cut n (resumed_trace most (all_names v later (program ++ q.helpers)) program q w.path d)).stop ≢ bad_path
+
+-- ---- each sound query has its run, where no later stage is there
+
+abbrev pub SoundQueriesTellPaths : Type 0
+SoundQueriesTellPaths = (most : ℕ) (v : View) (program : List PredTree) (q : QueryTree) → IsSoundQuery program q → (n : ℕ) →
+    (c : Cut (Way Solution)) × IsPathRunUnder most (all_names v nothing_later (program ++ q.helpers)) program q n c
+
+-- and its resumed run from each path
+abbrev pub SoundQueriesAreResumed : Type 0
+SoundQueriesAreResumed = (most : ℕ) (v : View) (program : List PredTree) (q : QueryTree) → IsSoundQuery program q → (path : List ℕ) (n : ℕ) →
+    (c : ResumedCut (Way Solution)) × IsResumedRunUnder most (all_names v nothing_later (program ++ q.helpers)) program q path n c
+
+-- and so that has a depth that reaches to the cut, as a query, under each log
+abbrev pub SoundQueriesReach : Type 0
+SoundQueriesReach = (program : List PredTree) (q : QueryTree) → IsSoundQuery program q → (path : List ℕ) (steps : ℕ) (log : List LogEntry) →
+    (depth : ℕ) × ReachesToCut (query_behind nothing_later program q path steps) log depth
 
 -- ---- the work of a resumed run
 

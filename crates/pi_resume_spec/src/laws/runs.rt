@@ -1,5 +1,5 @@
 //! Laws of runs that tell paths, and of resumed runs, each cut just before a Tick.
-ghost use Rattle.pi_resume_spec.specs.RunLaws.{ToldPathsAreShort, ShortPathsAreTold, TheFirstLongPathEnds, SpentOnTheWay, CutBehindTheWay, BadExactlyAtTheEnd, EndsOnTheWay, MoreDepthLeavesCuts, NamesOnlyAdd, NothingLaterAdds, PathsDoMore, QueriesFollowMore, PathRunIsOne, DeeperPathRuns, ResumedRunIsOne, DeeperResumedRuns, ToldRunsResume, CutRunsResume, ToldPathsAreGood, QueriesBehindAreOne, LoadsOfTheWayCount, AskedOnTheWay};
+ghost use Rattle.pi_resume_spec.specs.RunLaws.{ToldPathsAreShort, ShortPathsAreTold, TheFirstLongPathEnds, SpentOnTheWay, CutBehindTheWay, BadExactlyAtTheEnd, EndsOnTheWay, MoreDepthLeavesCuts, NamesOnlyAdd, NothingLaterAdds, PathsDoMore, QueriesFollowMore, PathRunIsOne, DeeperPathRuns, ResumedRunIsOne, DeeperResumedRuns, ToldRunsResume, CutRunsResume, ToldPathsAreGood, SoundQueriesTellPaths, SoundQueriesAreResumed, SoundQueriesReach, QueriesBehindAreOne, LoadsOfTheWayCount, AskedOnTheWay};
 
 /// An exception stands in place of the first answer whose path is too long, and of all that is behind it; where there is none
 /// nothing is changed.
@@ -47,4 +47,11 @@ pub fn resumed_work_is_counted()
     ensures one { QueriesBehindAreOne }
     ensures loads { LoadsOfTheWayCount }
     ensures asked { AskedOnTheWay }
+{}
+
+/// Where no later stage is there each sound query has its run, and from each path its resumed run, also as a query.
+pub fn sound_queries_resume()
+    ensures run { SoundQueriesTellPaths }
+    ensures resumed { SoundQueriesAreResumed }
+    ensures reach { SoundQueriesReach }
 {}

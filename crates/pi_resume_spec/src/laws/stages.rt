@@ -1,5 +1,6 @@
 //! Laws of the paths of labelling and draining.
 ghost use Rattle.pi_resume_spec.specs.StageLaws.{LabellingAddsNothing, LabellingIsGuided, SolvingAddsNothing, SolvingIsGuided, DrainingAddsNothing, DrainingIsGuided};
+ghost use Rattle.pi_resume_spec.specs.StageMore.{LabellingFollowsMore, SolvingFollowsMore, DrainingFollowsMore};
 
 /// Labelling with the paths of its alternatives is labelling, and its paths lead apart, each to its answer.
 pub fn labellings_have_paths()
@@ -13,4 +14,11 @@ pub fn labellings_have_paths()
 pub fn drainings_have_paths<X>()
     ensures plain { DrainingAddsNothing X }
     ensures guided { DrainingIsGuided X }
+{}
+
+/// More depth only adds to labelling, to `solve` and to draining, also where they follow numbers.
+pub fn stages_follow_more<X>()
+    ensures labelling { LabellingFollowsMore }
+    ensures solve { SolvingFollowsMore }
+    ensures draining { DrainingFollowsMore X }
 {}
