@@ -1,17 +1,18 @@
 //! The search proper: propagation, decisions, and what is learned from conflicts.
-ghost use Rattle.std.specs.Prelude.{◌≡◌, IfOk, OnErr, All, List};
+ghost use Rattle.std.specs.Prelude.{◌≡◌, IfOk, OnErr, All};
 ghost use Rattle.pi_constraints.specs.Constraint.{IsWithinLimits};
+ghost use Rattle.pi_sat_search.specs.Nodes.{MayGo};
 ghost use Rattle.pi_sat_search.specs.Steps.{IsFound};
-ghost use Rattle.pi_sat_spec.specs.declared.entry.SatEntry.{SatEntry};
 
 use crate::append::append;
 use crate::cuts::has_empty;
 use crate::decisions::{decision, values_of};
 use crate::given::Given;
-use crate::learning::{Conflict, conflict_of, denied_decisions, learned};
+use crate::learning::{Conflict, conflict_of, learned};
 use crate::propagation::propagate;
 use crate::reasons::reason_of;
 use crate::solutions::is_solution;
+use crate::sure::{Sure, find};
 use crate::trail::Trail;
 use pi_sat_spec::{Assignment, SatEntry, SatLog};
 use std::alloc::AllocError;
@@ -29,8 +30,6 @@ pub(crate) enum Found {
     Learned,
     /// These values are a solution.
     Yes(Assignment),
-    /// A test refused what was found.
-    Refused,
 }
 
 /// What the search finds for the log, or for an answer.
@@ -39,12 +38,8 @@ enum Sought {
     Entry(SatEntry),
     /// All domains are fixed, to these values.
     Fixed(Assignment),
-    /// What is learned from a conflict of the entry with this number, and the level to go back to.
-    Conflict {
-        entry: SatEntry,
-        level: u64,
-        number: usize,
-    },
+    /// What is learned from a conflict, and the level to go back to.
+    Conflict { entry: SatEntry, level: u64 },
     /// Nothing.
     Nothing,
 }
@@ -61,25 +56,36 @@ enum Wanted {
     Decided,
 }
 
-/// Searches on, up to one more entry or to a solution.
+/// Searches on, up to one more entry or to a solution. Where a test refuses what the free search offers, the sure step is taken.
 pub(crate) fn advance(
     given: &Given,
     log: &mut SatLog,
     course: &mut Course,
 ) -> Result<Found, AllocError>
-    requires { All IsWithinLimits given.now.constraints }
+    requires { MayGo given.now.domains given.now.constraints log.old }
     ensures found { IfOk result (λ found. IsFound given.now.domains given.now.constraints log.old log.new found) }
     ensures err { OnErr result (log.new ≡ log.old) }
 {
     match seek(given, log.as_slice(), course)? {
         Sought::Entry(entry) => kept(given, log, entry),
-        Sought::Fixed(values) => tested(given, values),
-        Sought::Conflict {
-            entry,
-            level,
-            number,
-        } => settle(given, log, course, entry, level, number),
-        Sought::Nothing => Ok(Found::Refused),
+        Sought::Fixed(values) => tested(given, log, values),
+        Sought::Conflict { entry, level } => learn(given, log, course, entry, level),
+        Sought::Nothing => surely(given, log),
+    }
+}
+
+/// Takes the sure step.
+fn surely(given: &Given, log: &mut SatLog) -> Result<Found, AllocError>
+    requires { MayGo given.now.domains given.now.constraints log.old }
+    ensures found { IfOk result (λ found. IsFound given.now.domains given.now.constraints log.old log.new found) }
+    ensures err { OnErr result (log.new ≡ log.old) }
+{
+    match find(given, log.as_slice())? {
+        Sure::Yes(values) => Ok(Found::Yes(values)),
+        Sure::Entry(entry) => {
+            log.push(entry)?;
+            Ok(Found::Learned)
+        }
     }
 }
 
@@ -102,11 +108,7 @@ fn seek(given: &Given, entries: &[SatEntry], course: &mut Course) -> Result<Soug
                 match entry {
                     None => course.trail.back_to(level),
                     Some(entry) => {
-                        return Ok(Sought::Conflict {
-                            entry,
-                            level,
-                            number,
-                        });
+                        return Ok(Sought::Conflict { entry, level });
                     }
                 }
             }
@@ -117,48 +119,42 @@ fn seek(given: &Given, entries: &[SatEntry], course: &mut Course) -> Result<Soug
 
 /// Keeps an entry that passes its test.
 fn kept(given: &Given, log: &mut SatLog, entry: SatEntry) -> Result<Found, AllocError>
-    requires { All IsWithinLimits given.now.constraints }
+    requires { MayGo given.now.domains given.now.constraints log.old }
     ensures found { IfOk result (λ found. IsFound given.now.domains given.now.constraints log.old log.new found) }
     ensures err { OnErr result (log.new ≡ log.old) }
 {
     if append(given, log, entry)? {
         return Ok(Found::Learned);
     }
-    Ok(Found::Refused)
+    surely(given, log)
 }
 
-/// Keeps what a conflict comes to, or where that is refused that not all decisions hold.
-fn settle(
+/// Keeps what a conflict comes to, and goes back.
+fn learn(
     given: &Given,
     log: &mut SatLog,
     course: &mut Course,
     entry: SatEntry,
     level: u64,
-    number: usize,
 ) -> Result<Found, AllocError>
-    requires { All IsWithinLimits given.now.constraints }
+    requires { MayGo given.now.domains given.now.constraints log.old }
     ensures found { IfOk result (λ found. IsFound given.now.domains given.now.constraints log.old log.new found) }
     ensures err { OnErr result (log.new ≡ log.old) }
 {
-    if append(given, log, entry)? {
-        course.trail.back_to(level);
-        return Ok(Found::Learned);
-    }
-    let plain = denied_decisions(given.alloc, &course.trail, number)?;
-    let below = course.trail.level.saturating_sub(1);
-    course.trail.back_to(below);
-    kept(given, log, plain)
+    course.trail.back_to(level);
+    kept(given, log, entry)
 }
 
 /// Answers values that pass their test.
-fn tested(given: &Given, values: Assignment) -> Result<Found, AllocError>
-    requires { All IsWithinLimits given.now.constraints }
-    ensures { (log : List SatEntry) → IfOk result (λ found. IsFound given.now.domains given.now.constraints log log found) }
+fn tested(given: &Given, log: &mut SatLog, values: Assignment) -> Result<Found, AllocError>
+    requires { MayGo given.now.domains given.now.constraints log.old }
+    ensures found { IfOk result (λ found. IsFound given.now.domains given.now.constraints log.old log.new found) }
+    ensures err { OnErr result (log.new ≡ log.old) }
 {
     if is_solution(given, values.as_slice())? {
         return Ok(Found::Yes(values));
     }
-    Ok(Found::Refused)
+    surely(given, log)
 }
 
 /// What the present domains ask for: what lemmas leave alone is taken first, then the filters are asked, then a literal is decided.

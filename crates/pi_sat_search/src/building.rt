@@ -1,4 +1,6 @@
 //! Lemmas in the making.
+ghost use Rattle.std.specs.Prelude.{◌≡◌, true, false};
+
 use crate::cuts::negated;
 use pi_constraints::{Domain, cut_above, max, min};
 use pi_sat_spec::Literal;
@@ -81,7 +83,9 @@ pub(crate) fn new_greatest(given: &Domain, left: &Domain) -> Option<i64> {
 }
 
 /// The literal that a variable is above a bound.
-pub(crate) fn above(var: u64, bound: i64) -> Literal {
+pub(crate) fn above(var: u64, bound: i64) -> Literal
+    ensures { result ≡ record { var = var; bound = bound; above = true } }
+{
     Literal {
         var,
         bound,
@@ -90,7 +94,9 @@ pub(crate) fn above(var: u64, bound: i64) -> Literal {
 }
 
 /// The literal that a variable is at most a bound.
-pub(crate) fn at_most(var: u64, bound: i64) -> Literal {
+pub(crate) fn at_most(var: u64, bound: i64) -> Literal
+    ensures { result ≡ record { var = var; bound = bound; above = false } }
+{
     Literal {
         var,
         bound,

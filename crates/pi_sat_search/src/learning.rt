@@ -1,4 +1,7 @@
 //! What is learned where a lemma has no literal left.
+ghost use Rattle.std.specs.Prelude.{◌≡◌};
+ghost use Rattle.pi_sat_spec.specs.declared.entry.SatEntry.{SatEntry};
+
 use crate::building::put;
 use crate::cuts::negated;
 use crate::lemmas::lemma_of;
@@ -20,7 +23,8 @@ pub(crate) enum Part {
     Denied,
 }
 
-/// A conflict that was looked at: what to keep, and the level to go back to. No entry where the lemma that has no literal left says it already.
+/// A conflict that was looked at: what to keep, and the level to go back to. No entry where the lemma that has no literal left says
+/// it already.
 #[derive(Drop)]
 pub(crate) struct Conflict {
     pub(crate) entry: Option<SatEntry>,
@@ -111,7 +115,8 @@ fn is_against(taken: Literal, literal: Literal) -> bool {
     }
 }
 
-/// What becomes of a literal that is needed: on the first level its reason stands for it, and so on the present one where another one of it is needed too.
+/// What becomes of a literal that is needed: on the first level its reason stands for it, and so on the present one where another
+/// one of it is needed too.
 fn part_of(one: &Taken, level: u64, parts: &[Part], taken: &[Taken]) -> Part {
     match one.reason {
         Reason::Decision => Part::Denied,
@@ -170,27 +175,11 @@ fn finished(
 }
 
 /// The entry of a lemma that follows from others.
-pub(crate) fn learned(lemma: Vec<Literal>, hints: Vec<u64>) -> SatEntry {
+pub(crate) fn learned(lemma: Vec<Literal>, hints: Vec<u64>) -> SatEntry
+    ensures { result ≡ SatEntry.Learned lemma.items hints.items }
+{
     SatEntry::Learned {
         lemma: Lemma::from_vec(lemma),
         hints: Places::from_vec(hints),
     }
-}
-
-/// That not all decisions hold: each reason, in order, leads to the conflict.
-pub(crate) fn denied_decisions(
-    alloc: Global,
-    trail: &Trail,
-    number: usize,
-) -> Result<SatEntry, AllocError> {
-    let mut lemma = Vec::new(alloc);
-    let mut hints = Vec::new(alloc);
-    for one in trail.taken.as_slice() {
-        match one.reason {
-            Reason::Decision => put(&mut lemma, negated(one.literal))?,
-            Reason::Entry(reason) => hints.push(reason)?,
-        }
-    }
-    hints.push(number as u64)?;
-    Ok(learned(lemma, hints))
 }

@@ -1,6 +1,7 @@
 //! Lemmas of single constraints: what their filters cut, and why.
-ghost use Rattle.std.specs.Prelude.{All};
+ghost use Rattle.std.specs.Prelude.{◌≡◌, All};
 ghost use Rattle.pi_constraints.specs.Constraint.{IsWithinLimits};
+ghost use Rattle.pi_sat_spec.specs.declared.entry.SatEntry.{SatEntry};
 
 use crate::building::{above, at_most, below_least, new_greatest, put, put_ends};
 use crate::filtered::{have_none, left_at_places};
@@ -49,7 +50,9 @@ pub(crate) fn reason_of(
 }
 
 /// The entry of a lemma that follows from a constraint.
-fn entry_of(lemma: Vec<Literal>, number: usize) -> SatEntry {
+pub(crate) fn entry_of(lemma: Vec<Literal>, number: usize) -> SatEntry
+    ensures { result ≡ SatEntry.FromConstraint lemma.items number }
+{
     SatEntry::FromConstraint {
         lemma: Lemma::from_vec(lemma),
         constraint: number as u64,
