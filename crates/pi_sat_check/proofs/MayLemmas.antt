@@ -1,5 +1,5 @@
 -- Constraints of which each may be had, and items of which each has values.
-use Rattle.std.specs.Prelude.{◌≡◌, ◌≢◌, ◌↔◌, ℕ, ◌+◌, ◌<◌, ◌≤◌, Bool, true, false, not, IsTrue, List, [], ◌∷◌, length, get_or, All, Contains, refl}
+use Rattle.std.specs.Prelude.{◌≡◌, ◌≢◌, ◌↔◌, ◌⊎◌, ℕ, ◌+◌, ◌<◌, ◌≤◌, Bool, true, false, not, IsTrue, List, [], ◌∷◌, length, get_or, All, Contains, refl}
 use Rattle.std.proofs.Common.{arith, sym, ◌∙◌, ap, subst, inl, inr}
 use Rattle.std.proofs.lemmas.Bool.{cases_Bool, both_ways}
 use Rattle.std.proofs.lemmas.List.{get_or_default}
@@ -51,12 +51,13 @@ same-variable m n e = ap number e
     number (Item.Var k) = k
     number (Item.Int i) = 0
 
-pub values-at : (xs : List VarDomain) (item : Item) (n i : ℕ) (x : VarDomain) (b : Bool) → item ≡ Item.Var n → IsPlace xs n i → x ≡ get_or xs i x → b ≡ has_none x.domain → IsTrue (not b) ↔ HasValues xs item
-values-at xs item n i x b e place read is =
-    let here : domain_of xs n ≡ x.domain = domain-at xs n i x place ∙ ap (λ (y : VarDomain). y.domain) (sym read) in
-    (λ t m f. let same : n ≡ m = same-variable n m (sym e ∙ f) in
-    subst (λ (k : ℕ). domain_of xs k ≢ []) same (λ g. some b t (is ∙ ap has_none (sym here ∙ g))),
-    λ h. none b (λ t. h n e (here ∙ empty x.domain (sym is ∙ t))))
+pub values-at : (xs : List VarDomain) (item : Item) (n i : ℕ) (x : VarDomain) (b : Bool) → item ≡ Item.Var n → IsPlace xs n i → b ≡ has_none (get_or xs i x).domain → IsTrue (not b) ↔ HasValues xs item
+values-at xs item n i x b e place is =
+    let here : domain_of xs n ≡ (get_or xs i x).domain = domain-at xs n i x place in (
+      λ t m f. let same : n ≡ m = same-variable n m (sym e ∙ f) in
+          subst (λ (k : ℕ). domain_of xs k ≢ []) same (λ g. some b t (is ∙ ap has_none (sym here ∙ g))),
+      λ h. none b (λ t. h n e (here ∙ empty (get_or xs i x).domain (sym is ∙ t))),
+    )
   where
     some : (c : Bool) → IsTrue (not c) → c ≡ true → ⊥
     some true t f = cc
