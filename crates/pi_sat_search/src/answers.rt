@@ -5,7 +5,8 @@ ghost use Rattle.pi_sat_search.specs.Steps.{MaySeek, IsKept, IsAgain, IsAnswered
 ghost use Rattle.pi_sat_search.specs.declared.stand.Stand.{Stand};
 ghost use Rattle.pi_sat_search.specs.declared.steps.SatStep.{SatStep};
 
-use crate::advance::{Course, Found, advance};
+use crate::advance::{Found, advance};
+use crate::course::Course;
 use crate::given::Given;
 use crate::lemmas::lemma_of;
 use crate::stand::Stand;

@@ -19,6 +19,32 @@ pub(crate) fn put(lemma: &mut Vec<Literal>, literal: Literal) -> Result<(), Allo
     Ok(())
 }
 
+/// Puts a literal where it belongs; of two of one variable and direction the one stays that the other implies.
+pub(crate) fn put_weaker(lemma: &mut Vec<Literal>, literal: Literal) -> Result<(), AllocError> {
+    let at = place_for(lemma.as_slice(), literal);
+    let bound = match lemma.as_slice().get(at) {
+        Some(other) if has_place_of(*other, literal) => weaker(*other, literal),
+        _ => literal.bound,
+    };
+    put(
+        lemma,
+        Literal {
+            var: literal.var,
+            bound,
+            above: literal.above,
+        },
+    )
+}
+
+/// The bound of the weaker of two literals of one variable and direction.
+fn weaker(first: Literal, second: Literal) -> i64 {
+    if first.above {
+        first.bound.min(second.bound)
+    } else {
+        first.bound.max(second.bound)
+    }
+}
+
 /// How many literals stand before a literal's place.
 fn place_for(lemma: &[Literal], literal: Literal) -> usize {
     let mut at = 0;

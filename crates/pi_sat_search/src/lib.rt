@@ -4,7 +4,10 @@
 mod advance;
 mod answers;
 mod append;
+mod asking;
 mod building;
+mod clauses;
+mod course;
 mod cuts;
 mod decisions;
 mod entries;
@@ -19,7 +22,6 @@ mod limits;
 mod lookup;
 mod nodes;
 mod picks;
-mod propagation;
 mod reasons;
 mod search;
 mod solutions;

@@ -6,14 +6,13 @@ ghost use Rattle.pi_sat_search.specs.Steps.{IsStep, Stays, MaySeek, IsOnce, AreA
 ghost use Rattle.pi_sat_search.specs.declared.fault.SearchFault.TheVariants.{Limits, TwoDomains};
 ghost use Rattle.pi_sat_search.specs.declared.stand.Stand.{Stand};
 
-use crate::advance::Course;
 use crate::answers::{again, first_step};
+use crate::course::Course;
 use crate::fault::SearchFault;
 use crate::given::Given;
 use crate::limits::{are_once, are_within_limits};
 use crate::stand::Stand;
 use crate::steps::SatStep;
-use crate::trail::Trail;
 use pi_constraints::{Constraints, VarDomains};
 use pi_sat_spec::SatLog;
 use std::alloc::Global;
@@ -69,11 +68,11 @@ impl SatSearch {
             return Err(SearchFault::TwoDomains);
         }
         let given = Given::new(alloc, domains, constraints)?;
-        let trail = Trail::new(alloc, domains.as_slice())?;
+        let course = Course::new(alloc, &given)?;
         Ok(SatSearch {
             given,
             log: SatLog::new(alloc),
-            course: Course { trail, next: 0 },
+            course,
             stand: Stand::Open,
         })
     }
