@@ -1,10 +1,10 @@
 -- The end of the way down: each variable has one value, which a constraint refutes, or which solve all of them.
-use Rattle.std.specs.Prelude.{◌≡◌, ◌≢◌, ◌⊎◌, ℕ, zero, suc, ◌+◌, ◌<◌, ◌≤◌, Bool, true, false, nat_eq, IsTrue, Option, Some, None, List, [], ◌∷◌, length, get_or, slice_get, map, All, ℤ, ◌<ℤ◌, ◌≤ℤ◌, refl}
+use Rattle.std.specs.Prelude.{◌≡◌, ◌≢◌, ◌⊎◌, ℕ, ◌+◌, ◌<◌, ◌≤◌, false, nat_eq, IsTrue, Option, Some, List, [], ◌∷◌, length, get_or, slice_get, map, All, ℤ, ◌<ℤ◌, ◌≤ℤ◌, refl}
 use Rattle.std.proofs.Common.{arith, sym, ◌∙◌, ap, ap₂, subst, inl, inr}
-use Rattle.std.proofs.lemmas.Bool.{cases_Bool, both_ways, eqb-true}
+use Rattle.std.proofs.lemmas.Bool.{cases_Bool, both_ways}
 use Rattle.std.proofs.lemmas.Int.{ints}
-use Rattle.std.proofs.lemmas.List.{length-map, get_or_default}
-use Rattle.std.proofs.lemmas.List.Elements.{All-nil, All-cons, All-head, All-tail}
+use Rattle.std.proofs.lemmas.List.{get_or_default}
+use Rattle.std.proofs.lemmas.List.Elements.{All-head, All-tail}
 use Rattle.pi_constraints.specs.declared.constraint.Constraint.{Constraint}
 use Rattle.pi_constraints.specs.declared.constraint.Item.{Item}
 use Rattle.pi_constraints.specs.declared.domain.Span.{Span}
@@ -13,13 +13,12 @@ use Rattle.pi_constraints.specs.Constraint.{IsItem, IsWithinLimits}
 use Rattle.pi_constraints.specs.Domain.{IsDomain, IsWithinBounds, has_value}
 use Rattle.pi_constraints.proofs.DomainLemmas.{same_values_same_domain, values_are_within_bounds}
 use Rattle.pi_prop_spec.specs.Ends.{least_of, greatest_of}
-use Rattle.pi_prop_spec.specs.Filter.{Leaves}
 use Rattle.pi_prop_spec.specs.Places.{places_of, domain_at}
 use Rattle.pi_prop_spec.specs.Solutions.{value_of, Holds}
-use Rattle.pi_prop_spec.proofs.EndLemmas.{least-has, least-below, greatest-above, not_empty}
+use Rattle.pi_prop_spec.proofs.EndLemmas.{least-has, least-below, greatest-above}
 use Rattle.pi_sat_spec.specs.declared.entry.SatEntry.{SatEntry}
 use Rattle.pi_sat_spec.specs.declared.literal.Literal.{Literal}
-use Rattle.pi_sat_spec.specs.Domains.{domain_of, cut, refuted, has_empty, item_domain, only, at_places}
+use Rattle.pi_sat_spec.specs.Domains.{domain_of, cut, refuted, item_domain, only, at_places}
 use Rattle.pi_sat_spec.specs.Literals.{negated}
 use Rattle.pi_sat_spec.specs.Fixed.{fixed_places}
 use Rattle.pi_sat_spec.specs.Logs.{Refutes, Empties}

@@ -1,8 +1,8 @@
 -- The way down: what holds of a node where its domains are cut once more, and what two refuted lemmas lead to.
 use Rattle.std.specs.Int.{int_gap}
-use Rattle.std.specs.Prelude.{◌≡◌, ◌≢◌, ◌⊎◌, ℕ, zero, suc, ◌+◌, ◌<◌, ◌≤◌, Bool, true, false, not, ◌||◌, nat_eq, IsTrue, Option, Some, None, List, [], ◌∷◌, ◌++◌, length, get_or, slice_get, filter, All, ℤ, pos, ◌≤ℤ◌, ◌<ℤ◌, ◌+ℤ◌, int_le, refl}
+use Rattle.std.specs.Prelude.{◌≡◌, ◌≢◌, ◌⊎◌, ℕ, ◌<◌, ◌≤◌, Bool, true, false, not, ◌||◌, nat_eq, IsTrue, Some, List, [], ◌∷◌, ◌++◌, length, get_or, slice_get, All, ℤ, pos, ◌≤ℤ◌, ◌<ℤ◌, ◌+ℤ◌, int_le, refl}
 use Rattle.std.proofs.Common.{arith, sym, ◌∙◌, ap, subst, inl, inr}
-use Rattle.std.proofs.lemmas.Bool.{cases_Bool, both_ways, eqb-true, eq-eqb, ne_eqb}
+use Rattle.std.proofs.lemmas.Bool.{cases_Bool, both_ways}
 use Rattle.std.proofs.lemmas.Int.{ints}
 use Rattle.std.proofs.lemmas.List.Elements.{All-nil, All-cons, All-head, All-tail}
 use Rattle.std.proofs.lemmas.Option.{slice_get_within, slice_get-get_or}
@@ -12,18 +12,18 @@ use Rattle.pi_constraints.specs.declared.var_domain.VarDomain.{VarDomain}
 use Rattle.pi_constraints.specs.Domain.{IsDomain, has_value, IsLeastValue}
 use Rattle.pi_constraints.proofs.DomainLemmas.{gap_is}
 use Rattle.pi_prop_spec.specs.Ends.{least_of, greatest_of}
-use Rattle.pi_prop_spec.proofs.EndLemmas.{least-has, greatest-has, least-below, greatest-above, ends_within, not_empty}
+use Rattle.pi_prop_spec.proofs.EndLemmas.{least-has, greatest-has, least-below, ends_within, not_empty}
 use Rattle.pi_sat_spec.specs.declared.entry.SatEntry.{SatEntry}
 use Rattle.pi_sat_spec.specs.declared.literal.Literal.{Literal}
 use Rattle.pi_sat_spec.specs.Literals.{Precedes, Ascends, allows, negated, left_by}
-use Rattle.pi_sat_spec.specs.Domains.{domain_of, cut, refuted, has_none, has_empty, is_allowed, allowed, AreDomains, IsLemma}
+use Rattle.pi_sat_spec.specs.Domains.{domain_of, cut, refuted, has_empty, is_allowed, allowed, AreDomains, IsLemma}
 use Rattle.pi_sat_spec.specs.Logs.{lemma_of, lemma_or_none, lemma_at, by_only, leads_on, IsRightEntry, AreRight}
 use Rattle.pi_sat_spec.proofs.CutLemmas.{cut-domains, domain-good}
 use Rattle.pi_sat_spec.proofs.LiteralLemmas.{left-domain}
 use Rattle.pi_sat_search.specs.declared.picks.Pick.{Pick}
 use Rattle.pi_sat_search.specs.Nodes.{IsOpen, NoneRefuted, Sorted, IsBehind, IsNode, IsPick, IsPut, IsNext, width, widths}
 use Rattle.pi_sat_search.specs.Steps.{IsOnce, IsNew, AreSome}
-use Rattle.pi_sat_search.proofs.SortedLemmas.{All-push, All-base, All-last, All-more, ascends-sorted, sorted-ascends, sorted-push, sorted-base, none-pass, pass-none, All-pass, sorted-filter, one-at-most}
+use Rattle.pi_sat_search.proofs.SortedLemmas.{All-push, All-base, All-last, All-more, ascends-sorted, sorted-ascends, sorted-push, sorted-base, none-pass, All-pass, sorted-filter, one-at-most}
 use Rattle.pi_sat_search.proofs.ShrinkLemmas.{cut-here, cut-has-parts, cut-keeps, is-allowed, value-of-allowed, none-allowed-cut, refuted-none, refuted-before, refuted-push, refuted-domains, cut-twice, cut-some, cut-once, same-or-other, left-parts, Has}
 
 -- the two literals of a pick

@@ -1,6 +1,6 @@
 -- Places on the way down from the given domains: the domains there, and the literals that say that one isn't there. The definitions are own.
 use Rattle.std.specs.Int.{int_gap}
-use Rattle.std.specs.Prelude.{◌≡◌, ◌≢◌, ◌⊎◌, ℕ, ◌+◌, ◌<◌, ◌≤◌, IsTrue, Option, Some, None, List, [], ◌∷◌, ◌++◌, length, get_or, map, slice_get, All, MatchOption, ℤ, ◌<ℤ◌, true, false}
+use Rattle.std.specs.Prelude.{◌≡◌, ◌≢◌, ◌⊎◌, ℕ, ◌+◌, ◌<◌, ◌≤◌, IsTrue, Option, Some, None, List, [], ◌∷◌, ◌++◌, length, map, slice_get, All, MatchOption, ℤ, ◌<ℤ◌, false}
 use Rattle.pi_constraints.specs.declared.constraint.Constraint.{Constraint}
 use Rattle.pi_constraints.specs.declared.domain.Span.{Span}
 use Rattle.pi_constraints.specs.declared.var_domain.VarDomain.{VarDomain}

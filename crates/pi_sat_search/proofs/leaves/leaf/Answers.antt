@@ -1,11 +1,8 @@
 use Rattle.std.proofs.Common.{List, sym, ap, subst, ◌∙◌}
-use Rattle.std.specs.Prelude.{Option, All, ℕ, ℤ}
-use Rattle.pi_constraints.specs.declared.constraint.Constraint.{Constraint}
-use Rattle.pi_constraints.specs.declared.var_domain.VarDomain.{VarDomain}
-use Rattle.pi_sat_spec.specs.Logs.{Refutes}
+use Rattle.std.specs.Prelude.{ℕ, ℤ}
 use Rattle.pi_sat_spec.specs.Solutions.{IsSolution}
 use Rattle.pi_sat_search.specs.Assigned.{assigned}
-use Rattle.pi_sat_search.specs.Nodes.{IsNext, IsRefuting, least_values}
+use Rattle.pi_sat_search.specs.Nodes.{IsNext, least_values}
 use Rattle.pi_sat_search.proofs.LeafLemmas.{leaf-solution, leaf-next, as-given}
 use Rattle.pi_sat_search.proofs.leaves.leaf.Goals as goal
 

@@ -1,4 +1,4 @@
-use Rattle.std.proofs.Common.{◌≡◌, ◌≢◌, ℕ, ◌<◌, []}
+use Rattle.std.proofs.Common.{◌≢◌, ℕ, ◌<◌, []}
 use Rattle.pi_sat_spec.specs.Domains.{allowed}
 use Rattle.pi_sat_spec.specs.Logs.{lemma_at}
 use Rattle.pi_sat_search.proofs.nodes.refuted_by.Given as goal

@@ -1,8 +1,7 @@
-use Rattle.std.proofs.Common.{◌≡◌, List, [], ◌∷◌, sym, ap, ap₂, subst, ◌∙◌}
+use Rattle.std.proofs.Common.{◌≡◌, List, [], sym, ap, ap₂, subst, ◌∙◌}
 use Rattle.std.specs.Prelude.{true, false}
 use Rattle.pi_constraints.specs.declared.var_domain.VarDomain.{VarDomain}
 use Rattle.pi_sat_spec.specs.declared.entry.SatEntry.{SatEntry}
-use Rattle.pi_sat_spec.specs.declared.literal.Literal.{Literal}
 use Rattle.pi_sat_spec.specs.Domains.{AreDomains, has_empty, allowed}
 use Rattle.pi_sat_spec.specs.Logs.{lemma_at}
 use Rattle.pi_sat_search.specs.Nodes.{IsNext, IsNode, NoneRefuted}
