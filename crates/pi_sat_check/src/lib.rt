@@ -8,6 +8,8 @@ mod entries;
 mod hints;
 mod lemmas;
 mod lookup;
+mod may;
 mod refuting;
 
 pub use checking::check;
+pub use may::may_search;

@@ -1,3 +1,8 @@
+mod LeafLemmas
 mod NextLemmas
+mod NodeLemmas
+mod PickLemmas
 mod SameLemmas
+mod ShrinkLemmas
+mod SortedLemmas
 mod ValueLemmas

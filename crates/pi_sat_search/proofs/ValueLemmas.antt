@@ -1,5 +1,5 @@
 -- The values of an assignment, found one after the other, and constraints that hold of them.
-use Rattle.std.specs.Prelude.{◌≡◌, ◌≢◌, ◌↔◌, ℕ, zero, suc, Bool, true, false, not, ◌+◌, ◌<◌, ◌≤◌, nat_eq, IsTrue, List, [], ◌∷◌, length, get_or, drop, map, All, ℤ, pos, refl}
+use Rattle.std.specs.Prelude.{◌≡◌, ◌≢◌, ◌↔◌, ℕ, Bool, true, false, not, ◌+◌, ◌<◌, ◌≤◌, IsTrue, List, [], ◌∷◌, length, get_or, drop, map, All, ℤ, pos, refl}
 use Rattle.std.proofs.Common.{arith, sym, ◌∙◌, ap, subst}
 use Rattle.std.proofs.lemmas.Bool.{eq-eqb, ne_eqb}
 use Rattle.std.proofs.lemmas.List.{drop_more, drop_all, length-map, get_or-map}
@@ -13,7 +13,6 @@ use Rattle.pi_prop_spec.specs.Places.{places_of, domain_at}
 use Rattle.pi_prop_spec.specs.Solutions.{value_of, Holds}
 use Rattle.pi_sat_spec.specs.Domains.{only}
 use Rattle.pi_sat_spec.specs.Fixed.{fixed_places}
-use Rattle.pi_sat_spec.specs.Logs.{Empties}
 use Rattle.pi_sat_spec.specs.Places.{HaveNone}
 use Rattle.pi_sat_spec.proofs.FixedLemmas.{fixed_places_tell}
 use Rattle.pi_sat_search.specs.Assigned.{assigned}

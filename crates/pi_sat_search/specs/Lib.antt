@@ -1,3 +1,4 @@
 pub mod Assigned
 pub mod LemmaStates
+pub mod Nodes
 pub mod Steps

@@ -1,5 +1,5 @@
 -- What a search has, what its steps tell, and which of them stay. The definitions are own.
-use Rattle.std.specs.Prelude.{◌≡◌, ◌≢◌, ◌⊎◌, ℕ, Bool, true, false, Option, Some, None, List, [], ◌∷◌, ◌++◌, slice_get, All, ℤ}
+use Rattle.std.specs.Prelude.{◌≡◌, ◌≢◌, ◌⊎◌, ℕ, ◌+◌, ◌<◌, length, get_or, Bool, true, false, Option, Some, None, List, [], ◌∷◌, ◌++◌, slice_get, All, ℤ}
 use Rattle.pi_constraints.specs.declared.constraint.Constraint.{Constraint}
 use Rattle.pi_constraints.specs.declared.var_domain.VarDomain.{VarDomain}
 use Rattle.pi_constraints.specs.Constraint.{IsWithinLimits}
@@ -19,6 +19,20 @@ pub record Searched : Type 0 where
   pub log : List SatEntry
   pub stand : Stand
 
+-- no two domains are given for one variable
+abbrev pub IsOnce : List VarDomain → Type 0
+IsOnce xs = (i j : ℕ) (other : VarDomain) → i < j → j < length xs → (get_or xs i other).var ≢ (get_or xs j other).var
+
+-- no lemma is empty; none but the last one is; no two entries have one lemma
+abbrev pub AreSome : List SatEntry → Type 0
+AreSome log = (k : ℕ) (e : SatEntry) → slice_get log k ≡ Some e → lemma_of e ≢ []
+
+abbrev pub AreSomeBefore : List SatEntry → Type 0
+AreSomeBefore log = (k : ℕ) (e : SatEntry) → k + 1 < length log → slice_get log k ≡ Some e → lemma_of e ≢ []
+
+abbrev pub AreApart : List SatEntry → Type 0
+AreApart log = (j k : ℕ) (e f : SatEntry) → j < k → slice_get log j ≡ Some e → slice_get log k ≡ Some f → lemma_of e ≢ lemma_of f
+
 -- no entry has this lemma
 abbrev pub IsNew : List SatEntry → List Literal → Type 0
 IsNew log lemma = (k : ℕ) (e : SatEntry) → slice_get log k ≡ Some e → lemma_of e ≢ lemma
@@ -35,11 +49,21 @@ IsAppended xs cs old new false = new ≡ old
 abbrev pub IsFound : List VarDomain → List Constraint → List SatEntry → List SatEntry → Found → Type 0
 IsFound xs cs old new Found.Learned = AddsOne xs cs old new
 IsFound xs cs old new (Found.Yes a) = (new ≡ old) × IsSolution xs cs (assigned a)
-IsFound xs cs old new Found.Refused = new ≡ old
+
+-- what a search is made of
+pub record MaySeek (xs : List VarDomain) (cs : List Constraint) : Type 0 where
+  pub limits : All IsWithinLimits cs
+  pub once : IsOnce xs
+
+-- the entries of a search: each is right over those before it, no two have one lemma, and an empty lemma is the last one
+pub record IsKept (xs : List VarDomain) (cs : List Constraint) (log : List SatEntry) : Type 0 where
+  pub right : AreRight xs cs log
+  pub apart : AreApart log
+  pub some : AreSomeBefore log
 
 -- what holds of a search that is so far
 abbrev pub StandsFor : List VarDomain → List Constraint → List SatEntry → Stand → Type 0
-StandsFor xs cs log Stand.Open = All IsWithinLimits cs
+StandsFor xs cs log Stand.Open = Unit {0}
 StandsFor xs cs log (Stand.Yes a) = IsSolution xs cs (assigned a)
 StandsFor xs cs log Stand.No = EndsEmpty log
 StandsFor xs cs log Stand.Memory = Unit {0}
@@ -71,7 +95,7 @@ IsAnswered a new s = ((new ≡ Stand.Yes a) × (s ≡ SatStep.Yes a)) ⊎ ((new 
 
 -- what a step of an open search tells, and where the search stands after it
 abbrev pub IsFirst : List VarDomain → List Constraint → List SatEntry → List SatEntry → Stand → SatStep → Type 0
-IsFirst xs cs old new stand SatStep.Learned = AddsOne xs cs old new × (stand ≡ Stand.Open)
+IsFirst xs cs old new stand SatStep.Learned = AreSome old × AddsOne xs cs old new × (stand ≡ Stand.Open)
 IsFirst xs cs old new stand (SatStep.Yes a) = (new ≡ old) × IsSolution xs cs (assigned a) × (stand ≡ Stand.Yes a)
 IsFirst xs cs old new stand SatStep.No = (new ≡ old) × EndsEmpty old × (stand ≡ Stand.No)
 IsFirst xs cs old new stand SatStep.Memory = (new ≡ old) × (stand ≡ Stand.Memory)

@@ -1,27 +1,15 @@
-//! The search proper: propagation, decisions, and what is learned from conflicts.
-ghost use Rattle.std.specs.Prelude.{◌≡◌, IfOk, OnErr, All, List};
-ghost use Rattle.pi_constraints.specs.Constraint.{IsWithinLimits};
+//! What a step of an open search comes to: what the free search offers is tested, and where a test refuses it the sure step is taken.
+ghost use Rattle.std.specs.Prelude.{◌≡◌, IfOk, OnErr};
+ghost use Rattle.pi_sat_search.specs.Nodes.{MayGo};
 ghost use Rattle.pi_sat_search.specs.Steps.{IsFound};
-ghost use Rattle.pi_sat_spec.specs.declared.entry.SatEntry.{SatEntry};
 
 use crate::append::append;
-use crate::cuts::has_empty;
-use crate::decisions::{decision, values_of};
+use crate::course::{Course, Sought};
 use crate::given::Given;
-use crate::learning::{Conflict, conflict_of, denied_decisions, learned};
-use crate::propagation::propagate;
-use crate::reasons::reason_of;
 use crate::solutions::is_solution;
-use crate::trail::Trail;
+use crate::sure::{Sure, find};
 use pi_sat_spec::{Assignment, SatEntry, SatLog};
 use std::alloc::AllocError;
-
-/// Where a search is: its present domains, and the constraint whose filter is next.
-#[derive(Drop)]
-pub(crate) struct Course {
-    pub(crate) trail: Trail,
-    pub(crate) next: usize,
-}
 
 /// What the search comes to.
 pub(crate) enum Found {
@@ -29,178 +17,60 @@ pub(crate) enum Found {
     Learned,
     /// These values are a solution.
     Yes(Assignment),
-    /// A test refused what was found.
-    Refused,
 }
 
-/// What the search finds for the log, or for an answer.
-enum Sought {
-    /// An entry that a filter asks for.
-    Entry(SatEntry),
-    /// All domains are fixed, to these values.
-    Fixed(Assignment),
-    /// What is learned from a conflict of the entry with this number, and the level to go back to.
-    Conflict {
-        entry: SatEntry,
-        level: u64,
-        number: usize,
-    },
-    /// Nothing.
-    Nothing,
-}
-
-/// What the present domains ask for.
-enum Wanted {
-    /// The lemma of the entry with this number has no literal left.
-    Conflict(usize),
-    /// An entry is to be kept.
-    Entry(SatEntry),
-    /// All domains are fixed.
-    Fixed(Assignment),
-    /// A literal was decided.
-    Decided,
-}
-
-/// Searches on, up to one more entry or to a solution.
+/// Searches on, up to one more entry or to a solution. Where a test refuses what the free search offers, the sure step is taken.
 pub(crate) fn advance(
     given: &Given,
     log: &mut SatLog,
     course: &mut Course,
 ) -> Result<Found, AllocError>
-    requires { All IsWithinLimits given.now.constraints }
+    requires { MayGo given.now.domains given.now.constraints log.old }
     ensures found { IfOk result (λ found. IsFound given.now.domains given.now.constraints log.old log.new found) }
     ensures err { OnErr result (log.new ≡ log.old) }
 {
-    match seek(given, log.as_slice(), course)? {
+    match course.seek(given, log.as_slice())? {
         Sought::Entry(entry) => kept(given, log, entry),
-        Sought::Fixed(values) => tested(given, values),
-        Sought::Conflict {
-            entry,
-            level,
-            number,
-        } => settle(given, log, course, entry, level, number),
-        Sought::Nothing => Ok(Found::Refused),
+        Sought::Fixed(values) => tested(given, log, values),
+        Sought::Nothing => surely(given, log),
     }
 }
 
-/// Takes what lemmas leave alone, and decides, up to what the log or an answer is to have.
-fn seek(given: &Given, entries: &[SatEntry], course: &mut Course) -> Result<Sought, AllocError>
-    requires { All IsWithinLimits given.now.constraints }
+/// Takes the sure step.
+fn surely(given: &Given, log: &mut SatLog) -> Result<Found, AllocError>
+    requires { MayGo given.now.domains given.now.constraints log.old }
+    ensures found { IfOk result (λ found. IsFound given.now.domains given.now.constraints log.old log.new found) }
+    ensures err { OnErr result (log.new ≡ log.old) }
 {
-    for _ in 0..u64::MAX {
-        match look(given, entries, course)? {
-            Wanted::Decided => {}
-            Wanted::Entry(entry) => return Ok(Sought::Entry(entry)),
-            Wanted::Fixed(values) => return Ok(Sought::Fixed(values)),
-            Wanted::Conflict(number) => {
-                let Conflict { entry, level } = conflict_of(
-                    given.alloc,
-                    entries,
-                    &course.trail,
-                    number,
-                )?;
-                match entry {
-                    None => course.trail.back_to(level),
-                    Some(entry) => {
-                        return Ok(Sought::Conflict {
-                            entry,
-                            level,
-                            number,
-                        });
-                    }
-                }
-            }
+    match find(given, log.as_slice())? {
+        Sure::Yes(values) => Ok(Found::Yes(values)),
+        Sure::Entry(entry) => {
+            log.push(entry)?;
+            Ok(Found::Learned)
         }
     }
-    Ok(Sought::Nothing)
 }
 
 /// Keeps an entry that passes its test.
 fn kept(given: &Given, log: &mut SatLog, entry: SatEntry) -> Result<Found, AllocError>
-    requires { All IsWithinLimits given.now.constraints }
+    requires { MayGo given.now.domains given.now.constraints log.old }
     ensures found { IfOk result (λ found. IsFound given.now.domains given.now.constraints log.old log.new found) }
     ensures err { OnErr result (log.new ≡ log.old) }
 {
     if append(given, log, entry)? {
         return Ok(Found::Learned);
     }
-    Ok(Found::Refused)
-}
-
-/// Keeps what a conflict comes to, or where that is refused that not all decisions hold.
-fn settle(
-    given: &Given,
-    log: &mut SatLog,
-    course: &mut Course,
-    entry: SatEntry,
-    level: u64,
-    number: usize,
-) -> Result<Found, AllocError>
-    requires { All IsWithinLimits given.now.constraints }
-    ensures found { IfOk result (λ found. IsFound given.now.domains given.now.constraints log.old log.new found) }
-    ensures err { OnErr result (log.new ≡ log.old) }
-{
-    if append(given, log, entry)? {
-        course.trail.back_to(level);
-        return Ok(Found::Learned);
-    }
-    let plain = denied_decisions(given.alloc, &course.trail, number)?;
-    let below = course.trail.level.saturating_sub(1);
-    course.trail.back_to(below);
-    kept(given, log, plain)
+    surely(given, log)
 }
 
 /// Answers values that pass their test.
-fn tested(given: &Given, values: Assignment) -> Result<Found, AllocError>
-    requires { All IsWithinLimits given.now.constraints }
-    ensures { (log : List SatEntry) → IfOk result (λ found. IsFound given.now.domains given.now.constraints log log found) }
+fn tested(given: &Given, log: &mut SatLog, values: Assignment) -> Result<Found, AllocError>
+    requires { MayGo given.now.domains given.now.constraints log.old }
+    ensures found { IfOk result (λ found. IsFound given.now.domains given.now.constraints log.old log.new found) }
+    ensures err { OnErr result (log.new ≡ log.old) }
 {
     if is_solution(given, values.as_slice())? {
         return Ok(Found::Yes(values));
     }
-    Ok(Found::Refused)
-}
-
-/// What the present domains ask for: what lemmas leave alone is taken first, then the filters are asked, then a literal is decided.
-fn look(given: &Given, entries: &[SatEntry], course: &mut Course) -> Result<Wanted, AllocError>
-    requires { All IsWithinLimits given.now.constraints }
-{
-    let alloc = given.alloc;
-    if has_empty(course.trail.present.as_slice()) {
-        return Ok(Wanted::Entry(learned(Vec::new(alloc), Vec::new(alloc))));
-    }
-    if let Some(number) = propagate(alloc, entries, &mut course.trail)? {
-        return Ok(Wanted::Conflict(number));
-    }
-    if let Some(entry) = filtered(given, course)? {
-        return Ok(Wanted::Entry(entry));
-    }
-    match decision(alloc, course.trail.present.as_slice())? {
-        Some(literal) => {
-            course.trail.decide(alloc, literal)?;
-            Ok(Wanted::Decided)
-        }
-        None => {
-            let values = values_of(alloc, course.trail.present.as_slice())?;
-            Ok(Wanted::Fixed(values))
-        }
-    }
-}
-
-/// The first entry that a filter asks for, from the constraint on whose filter is next.
-fn filtered(given: &Given, course: &mut Course) -> Result<Option<SatEntry>, AllocError>
-    requires { All IsWithinLimits given.now.constraints }
-{
-    let count = given.constraints.len();
-    for _ in 0..count {
-        if course.next >= count {
-            course.next = 0;
-        }
-        let asked = reason_of(given, course.trail.present.as_slice(), course.next)?;
-        if asked.is_some() {
-            return Ok(asked);
-        }
-        course.next = course.next.saturating_add(1);
-    }
-    Ok(None)
+    surely(given, log)
 }

@@ -1,12 +1,12 @@
 //! The answers of a search: those that stay, and those that a step comes to.
-ghost use Rattle.std.specs.Prelude.{◌≡◌, ◌↔◌, All, IsTrue};
-ghost use Rattle.pi_constraints.specs.Constraint.{IsWithinLimits};
+ghost use Rattle.std.specs.Prelude.{◌≡◌, ◌↔◌, IsTrue};
 ghost use Rattle.pi_sat_spec.specs.Logs.{EndsEmpty};
-ghost use Rattle.pi_sat_search.specs.Steps.{IsAgain, IsAnswered, IsFirst};
+ghost use Rattle.pi_sat_search.specs.Steps.{MaySeek, IsKept, IsAgain, IsAnswered, IsFirst};
 ghost use Rattle.pi_sat_search.specs.declared.stand.Stand.{Stand};
 ghost use Rattle.pi_sat_search.specs.declared.steps.SatStep.{SatStep};
 
-use crate::advance::{Course, Found, advance};
+use crate::advance::{Found, advance};
+use crate::course::Course;
 use crate::given::Given;
 use crate::lemmas::lemma_of;
 use crate::stand::Stand;
@@ -39,7 +39,8 @@ pub(crate) fn first_step(
     course: &mut Course,
     stand: &mut Stand,
 ) -> SatStep
-    requires limits { All IsWithinLimits given.now.constraints }
+    requires may { MaySeek given.now.domains given.now.constraints }
+    requires kept { IsKept given.now.domains given.now.constraints log.old }
     requires open { stand.old ≡ Stand.Open }
     ensures { IsFirst given.now.domains given.now.constraints log.old log.new stand.new result }
 {
@@ -50,7 +51,6 @@ pub(crate) fn first_step(
     match advance(given, log, course) {
         Ok(Found::Learned) => SatStep::Learned,
         Ok(Found::Yes(values)) => answered(given.alloc, values, stand),
-        Ok(Found::Refused) => refused(stand),
         Err(_) => refused(stand),
     }
 }

@@ -1,4 +1,6 @@
 //! Lemmas in the making.
+ghost use Rattle.std.specs.Prelude.{◌≡◌, true, false};
+
 use crate::cuts::negated;
 use pi_constraints::{Domain, cut_above, max, min};
 use pi_sat_spec::Literal;
@@ -15,6 +17,32 @@ pub(crate) fn put(lemma: &mut Vec<Literal>, literal: Literal) -> Result<(), Allo
         lemma.insert(at, literal)?;
     }
     Ok(())
+}
+
+/// Puts a literal where it belongs; of two of one variable and direction the one stays that the other implies.
+pub(crate) fn put_weaker(lemma: &mut Vec<Literal>, literal: Literal) -> Result<(), AllocError> {
+    let at = place_for(lemma.as_slice(), literal);
+    let bound = match lemma.as_slice().get(at) {
+        Some(other) if has_place_of(*other, literal) => weaker(*other, literal),
+        _ => literal.bound,
+    };
+    put(
+        lemma,
+        Literal {
+            var: literal.var,
+            bound,
+            above: literal.above,
+        },
+    )
+}
+
+/// The bound of the weaker of two literals of one variable and direction.
+fn weaker(first: Literal, second: Literal) -> i64 {
+    if first.above {
+        first.bound.min(second.bound)
+    } else {
+        first.bound.max(second.bound)
+    }
 }
 
 /// How many literals stand before a literal's place.
@@ -81,7 +109,9 @@ pub(crate) fn new_greatest(given: &Domain, left: &Domain) -> Option<i64> {
 }
 
 /// The literal that a variable is above a bound.
-pub(crate) fn above(var: u64, bound: i64) -> Literal {
+pub(crate) fn above(var: u64, bound: i64) -> Literal
+    ensures { result ≡ record { var = var; bound = bound; above = true } }
+{
     Literal {
         var,
         bound,
@@ -90,7 +120,9 @@ pub(crate) fn above(var: u64, bound: i64) -> Literal {
 }
 
 /// The literal that a variable is at most a bound.
-pub(crate) fn at_most(var: u64, bound: i64) -> Literal {
+pub(crate) fn at_most(var: u64, bound: i64) -> Literal
+    ensures { result ≡ record { var = var; bound = bound; above = false } }
+{
     Literal {
         var,
         bound,

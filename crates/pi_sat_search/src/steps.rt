@@ -10,6 +10,6 @@ pub enum SatStep {
     Yes(Assignment),
     /// There is no solution, as the log shows.
     No,
-    /// Memory was refused.
+    /// Memory was refused: it is told only where an allocation failed.
     Memory,
 }

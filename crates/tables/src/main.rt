@@ -23,6 +23,7 @@ impl<R: Print + Input + AllocGlobal, F: Files> Subjects<R> for Tables<F> {
         tables_runs::answer_words(subject, text, case)
             || tables_stores::answer_words(subject, text, case)
             || tables_names::answer_words(subject, case)
+            || tables_searches::answer_words(subject, case)
             || tables_values::answer_words(subject, case)
             || tables_values::answer_outside(rt, &mut self.files, subject, case)
     }

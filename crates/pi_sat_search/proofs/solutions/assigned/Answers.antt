@@ -1,4 +1,4 @@
-use Rattle.std.proofs.Common.{ℕ, rules, refl, sym, ◌∙◌, get_or}
+use Rattle.std.proofs.Common.{ℕ, rules, sym, ◌∙◌, get_or}
 use Rattle.std.specs.Prelude.{ℤ, pos}
 use Rattle.std.specs.Int.{w64}
 use Rattle.std.proofs.lemmas.Int.{to_z-of_z}
