@@ -43,17 +43,17 @@ ran-unspent asked program goal queries log status texts left has six =
     let less : has.took.runs < (manner_of asked).work = let here = one.0 in omega (arith, here, same) in
     left-unspent (manner_of asked).work has.headline.ending has.took has.headline.part less has.headline.takes (sym has.headline.its_status ∙ six)
 
-text-complete : (asked : Options) (held : Option Holding) (text : List ℕ) (queries : List QueryRun) (log : List LogEntry) (status : ℕ) (texts : List (List ℕ)) (writes : List SinkWrite) → status ≢ 3 → HaveWorkLeft asked.work queries →
+text-complete : (asked : Options) (held : Option Holding) (text : List ℕ) (queries : List QueryRun) (log : List LogEntry) (status : ℕ) (texts : List (List ℕ)) (writes : List SinkWrite) → status ≢ 3 →
     IsText asked.mode asked held text → HandsAll texts writes → ComesText (manner_of asked) text (goal_of asked) (lists queries log) status texts → IsComplete asked held (lists queries log) status writes
-text-complete asked held text queries log status texts writes sound left is_text handed (refused line is written) = absurd (sound written.is_its)
-text-complete asked held text queries log status texts writes sound left is_text handed (ran program of_program asks has) = record {
+text-complete asked held text queries log status texts writes sound is_text handed (refused line is written) = absurd (sound written.is_its)
+text-complete asked held text queries log status texts writes sound is_text handed (ran program of_program asks has) = record {
   text = text;
   is_text = is_text;
   program = program;
   of_program = of_program;
   asks = asks;
   ran = record { texts = texts; comes = has; handed = handed };
-  not_spent = ran-unspent asked program of_program queries log status texts left has;
+  not_spent = λ left. ran-unspent asked program of_program queries log status texts left has;
 }
 
 printed-complete : (asked : Options) (held : Option Holding) (text : List ℕ) (queries : List QueryRun) (status : ℕ) (texts : List (List ℕ)) (writes : List SinkWrite) → status ≢ 3 →
@@ -69,36 +69,36 @@ printed-complete asked held text queries status texts writes sound is_text hande
 
 -- what a mode with a file makes of a text
 of-complete : (mode : RunMode) (asked : Options) (held : Option Holding) (text : List ℕ) (queries : List QueryRun) (log : List LogEntry) (status : ℕ) (texts : List (List ℕ)) (writes : List SinkWrite) → asked.mode ≡ mode →
-    status ≢ 3 → HaveWorkLeft asked.work queries → asks_of_file mode ≡ true → IsRead held asked.file text → HandsAll texts writes → ComesOf mode asked text (lists queries log) status texts → CompletesIn mode asked held (lists queries log) status writes
-of-complete Query asked held text queries log status texts writes is sound left reads_one read handed comes = text-complete asked held text queries log status texts writes sound left (rw is read) handed comes
-of-complete Run asked held text queries log status texts writes is sound left reads_one read handed comes = text-complete asked held text queries log status texts writes sound left (rw is read) handed comes
-of-complete Print asked held text queries log status texts writes is sound left reads_one read handed comes = printed-complete asked held text queries status texts writes sound read handed comes
-of-complete Session asked held text queries log status texts writes is sound left reads_one read handed comes = absurd cc
-of-complete Demo asked held text queries log status texts writes is sound left reads_one read handed comes = absurd cc
+    status ≢ 3 → asks_of_file mode ≡ true → IsRead held asked.file text → HandsAll texts writes → ComesOf mode asked text (lists queries log) status texts → CompletesIn mode asked held (lists queries log) status writes
+of-complete Query asked held text queries log status texts writes is sound reads_one read handed comes = text-complete asked held text queries log status texts writes sound (rw is read) handed comes
+of-complete Run asked held text queries log status texts writes is sound reads_one read handed comes = text-complete asked held text queries log status texts writes sound (rw is read) handed comes
+of-complete Print asked held text queries log status texts writes is sound reads_one read handed comes = printed-complete asked held text queries status texts writes sound read handed comes
+of-complete Session asked held text queries log status texts writes is sound reads_one read handed comes = absurd cc
+of-complete Demo asked held text queries log status texts writes is sound reads_one read handed comes = absurd cc
 
-file-complete : (mode : RunMode) (asked : Options) (held : Option Holding) (files : FaultCount) (reads : List FileRead) (queries : List QueryRun) (log : List LogEntry) (status : ℕ) (texts : List (List ℕ)) (writes : List SinkWrite) → asked.mode ≡ mode → status ≢ 3 → HaveWorkLeft asked.work queries →
+file-complete : (mode : RunMode) (asked : Options) (held : Option Holding) (files : FaultCount) (reads : List FileRead) (queries : List QueryRun) (log : List LogEntry) (status : ℕ) (texts : List (List ℕ)) (writes : List SinkWrite) → asked.mode ≡ mode → status ≢ 3 →
     (Rises files → ⊥) → asks_of_file mode ≡ true → HandsAll texts writes → ComesFile asked (files_read held files reads) (lists queries log) status texts → CompletesIn mode asked held (lists queries log) status writes
-file-complete mode asked held files reads queries log status texts writes is sound left whole reads_one handed (read_fault rose fails line) = absurd (whole rose)
-file-complete mode asked held files reads queries log status texts writes is sound left whole reads_one handed (was_read stands text all_read is_read comes) =
-    of-complete mode asked held text queries log status texts writes is sound left reads_one is_read handed (subst (λ m. ComesOf m asked text (lists queries log) status texts) is comes)
+file-complete mode asked held files reads queries log status texts writes is sound whole reads_one handed (read_fault rose fails line) = absurd (whole rose)
+file-complete mode asked held files reads queries log status texts writes is sound whole reads_one handed (was_read stands text all_read is_read comes) =
+    of-complete mode asked held text queries log status texts writes is sound reads_one is_read handed (subst (λ m. ComesOf m asked text (lists queries log) status texts) is comes)
 
 -- a text that is read is the program's in a mode with a file
 in-complete : (mode : RunMode) (asked : Options) (held : Option Holding) (files : FaultCount) (reads : List FileRead) (queries : List QueryRun) (log : List LogEntry) (status : ℕ) (texts : List (List ℕ)) (writes : List SinkWrite) →
-    asked.mode ≡ mode → status ≢ 3 → HaveWorkLeft asked.work queries → (Rises files → ⊥) → HandsAll texts writes → ComesIn mode asked (files_read held files reads) (lists queries log) status texts → CompletesIn mode asked held (lists queries log) status writes
-in-complete Query asked held files reads queries log status texts writes is sound left whole handed comes =
-    file-complete Query asked held files reads queries log status texts writes is sound left whole refl handed comes
-in-complete Run asked held files reads queries log status texts writes is sound left whole handed comes =
-    file-complete Run asked held files reads queries log status texts writes is sound left whole refl handed comes
-in-complete Session asked held files reads queries log status texts writes is sound left whole handed comes = absurd comes
-in-complete Print asked held files reads queries log status texts writes is sound left whole handed comes =
-    file-complete Print asked held files reads queries log status texts writes is sound left whole refl handed comes
-in-complete Demo asked held files reads queries log status texts writes is sound left whole handed comes =
-    text-complete asked held (demo_program comes.places) queries log status texts writes sound left (rw is (comes.places, comes.number, refl)) handed comes.comes
+    asked.mode ≡ mode → status ≢ 3 → (Rises files → ⊥) → HandsAll texts writes → ComesIn mode asked (files_read held files reads) (lists queries log) status texts → CompletesIn mode asked held (lists queries log) status writes
+in-complete Query asked held files reads queries log status texts writes is sound whole handed comes =
+    file-complete Query asked held files reads queries log status texts writes is sound whole refl handed comes
+in-complete Run asked held files reads queries log status texts writes is sound whole handed comes =
+    file-complete Run asked held files reads queries log status texts writes is sound whole refl handed comes
+in-complete Session asked held files reads queries log status texts writes is sound whole handed comes = absurd comes
+in-complete Print asked held files reads queries log status texts writes is sound whole handed comes =
+    file-complete Print asked held files reads queries log status texts writes is sound whole refl handed comes
+in-complete Demo asked held files reads queries log status texts writes is sound whole handed comes =
+    text-complete asked held (demo_program comes.places) queries log status texts writes sound (rw is (comes.places, comes.number, refl)) handed comes.comes
 
 pub complete : (words : List (List ℕ)) (asked : Options) (held : Option Holding) (queries : List QueryRun) (log : List LogEntry) (status : ℕ) (files sink : FaultCount) (reads : List FileRead) (writes : List SinkWrite) →
-    Ends words (files_read held files reads) (lists queries log) status (sink_written sink writes) → NothingFails words asked queries status files sink → Completes asked held (lists queries log) status writes
+    Ends words (files_read held files reads) (lists queries log) status (sink_written sink writes) → NothingFails words asked status files sink → Completes asked held (lists queries log) status writes
 complete words asked held queries log status files sink reads writes (all_written stands w) none =
-    inr (in-complete asked.mode asked held files reads queries log status w.texts writes refl none.no_fault none.work_left none.no_read_fails w.handed
+    inr (in-complete asked.mode asked held files reads queries log status w.texts writes refl none.no_fault none.no_read_fails w.handed
     (subst (λ o. ComesBy o (files_read held files reads) (lists queries log) status w.texts) none.asks w.comes))
 complete words asked held queries log status files sink reads writes (write_failed eight rose cut) none = absurd (none.no_write_fails rose)
 complete words asked held queries log status files sink reads writes (memory_wanted nine earlier line split cut written) none = inl nine

@@ -21,11 +21,10 @@ use Rattle.pi_top_words.specs.Words.{options, places_of}
 use Rattle.pi_top.specs.Ends.{AsksSession}
 use Rattle.pi_top.specs.Demo.{demo_program}
 
--- the words are those of a command line, neither text has a fault, no goal's work reached what it may do, and neither count of faults rose: that of the files, and that of the sink
-pub record NothingFails (words : List (List ℕ)) (asked : Options) (queries : List QueryRun) (status : ℕ) (files sink : FaultCount) : Type 0 where
+-- the words are those of a command line, neither text has a fault, and neither count of faults rose: that of the files, and that of the sink
+pub record NothingFails (words : List (List ℕ)) (asked : Options) (status : ℕ) (files sink : FaultCount) : Type 0 where
   pub asks : options words ≡ Some asked
   pub no_fault : status ≢ 3
-  pub work_left : HaveWorkLeft asked.work queries
   pub no_read_fails : Rises files → ⊥
   pub no_write_fails : Rises sink → ⊥
 
@@ -34,7 +33,7 @@ abbrev pub IsText : RunMode → Options → Option Holding → List ℕ → Type
 IsText Demo asked held text = (places : ℕ) × (places_of asked ≡ Some places) × (text ≡ demo_program places)
 IsText other asked held text = IsRead held asked.file text
 
--- the goal was run to its end: its status is 0, 1, 4 or 5
+-- The goal was run to its end: its status is 0, 1, 4 or 5, or 6, but not where there was work left.
 pub record IsComplete (asked : Options) (held : Option Holding) (runs : Lists) (status : ℕ) (writes : List SinkWrite) : Type 0 where
   pub text : List ℕ
   pub is_text : IsText asked.mode asked held text
@@ -42,7 +41,7 @@ pub record IsComplete (asked : Options) (held : Option Holding) (runs : Lists) (
   pub of_program : ExpTree
   pub asks : Asks text (goal_of asked) program of_program
   pub ran : Written (HasRan (manner_of asked) program of_program runs status) writes
-  pub not_spent : status ≢ 6
+  pub not_spent : HaveWorkLeft asked.work runs.queries → status ≢ 6
 
 -- the program was printed whole: its status is 0
 pub record IsPrinted (asked : Options) (held : Option Holding) (queries : List QueryRun) (status : ℕ) (writes : List SinkWrite) : Type 0 where

@@ -32,9 +32,9 @@ pub record Promise {F I O : Type 0} (most : ℕ) (words : List (List ℕ)) (file
       (λ inputs. ByWrites out.wrote out.taken out.old out.new (λ writes. (asked : Options) → AsksSession (options words) asked →
       SessionEnds asked (files_read (files.held files.new) (files_count files) reads) (input_read most (input_count input) inputs)
       (lists outcome.queries outcome.log) outcome.status (sink_written (sink_count out) writes))))
-  -- Where nothing fails and work is left, what the words ask is done to its end, or memory is wanted.
+  -- Where nothing fails what the words ask is done to its end, or memory is wanted.
   pub complete : ByWrites out.wrote out.taken out.old out.new (λ writes. (asked : Options) → AsksNoSession (options words) →
-      NothingFails words asked outcome.queries outcome.status (files_count files) (sink_count out) →
+      NothingFails words asked outcome.status (files_count files) (sink_count out) →
       Completes asked (files.held files.new) (lists outcome.queries outcome.log) outcome.status writes)
   -- So it is with a session.
   pub complete_session : (asked : Options) →
