@@ -1,5 +1,5 @@
 -- Calls by name, of built-ins and of terms by `call`, don't end in an exception that no `catch` catches, where what they lead to doesn't and no later stage of the language is there.
-use Rattle.std.proofs.Common.{ℕ, Bool, List, [], Option, Some, None}
+use Rattle.std.proofs.Common.{ℕ, zero, suc, Bool, List, [], Option, Some, None}
 use Rattle.pi_terms.specs.Tree.{Tree, Trees, no_trees, tree, tree_count}
 use Rattle.pi_constraints.specs.State.{State}
 use Rattle.pi_effects.specs.Effect.{Effect, Succeeds, Fails, Writes, Raises, FunctionEffect, Gives, Refuses}
@@ -7,9 +7,11 @@ use Rattle.pi_core.specs.CoreTree.{PredTree}
 use Rattle.pi_traces.specs.Trace.{Trace, end, Raise, Deep, Tick, note, done, then}
 use Rattle.pi_meaning.specs.Shared.View.{View}
 use Rattle.pi_meaning.specs.Shared.Within.{Within, a_query, a_body, is_body, resource_left}
-use Rattle.pi_meaning.specs.Shared.Settle.{settled, settled_from}
+use Rattle.pi_settling.specs.Settled.{loaded}
+use Rattle.pi_settling.specs.Settle.{answer_with}
+use Rattle.pi_meaning.specs.Shared.Settle.{settlement, settled, settled_from}
 use Rattle.pi_meaning.specs.Shared.Handling.{handled_in, handling}
-use Rattle.pi_meaning.specs.Shared.Builtin.{written, effect_trace, function_trace, settled_effect}
+use Rattle.pi_meaning.specs.Shared.Builtin.{written, function_trace, settled_effect}
 use Rattle.pi_meaning.specs.Shared.Given.{Setting}
 use Rattle.pi_meaning.specs.Shared.Calls.{built_in, given_later, predicate_given, predicate_called, function_later, function_given, Called, unknown_name, with_planner, known_called, call_goal, catch_called, again_called, term_called, called_at_level, called_below, first_called}
 use Rattle.pi_meaning.specs.Shared.Level.{Level, lowest, over, Calls, Applied, calls_at, or_called, or_applied}
@@ -36,9 +38,19 @@ calls-safe (over c l) safe = safe.0
 
 -- ---- what is settled, and what is handled
 
+no-loaded : (n : ℕ) (t : Trace State) → NoAbort Anything t → NoAbort Anything (loaded n t)
+unfolding loaded NoAbort
+no-loaded zero t a = a
+no-loaded (suc n) t a = a
+
+no-left : (o : Option State) → NoAbort Anything (answer_with o)
+unfolding NoAbort
+no-left None = tt
+no-left (Some r) = (tt, tt)
+
 pub no-settled : (before s : State) → NoAbort Anything (settled before s)
-unfolding settled NoAbort
-no-settled before s = (tt, tt)
+unfolding settled
+no-settled before s = no-loaded (settlement before s).load (answer_with (settlement before s).left) (no-left (settlement before s).left)
 
 pub no-settled_from : (before : State) (o : Option State) → NoAbort Anything (settled_from before o)
 unfolding NoAbort
@@ -57,16 +69,12 @@ unfolding NoAbort
 no-written Bool.true text s = tt
 no-written Bool.false text s = (tt, tt)
 
-no-effect : (v : View) (e : Effect) → NoAbort Anything (effect_trace v e)
+no-settled_effect : (v : View) (before : State) (e : Effect) → NoAbort Anything (settled_effect v before e)
 unfolding NoAbort
-no-effect v (Succeeds s) = (tt, tt)
-no-effect v Fails = tt
-no-effect v (Writes text s) = no-written (is_body v.within) text s
-no-effect v (Raises ball) = tt
-
-no-settled_effect : (v : View) (s : State) (e : Effect) → NoAbort Anything (settled_effect v s e)
-unfolding NoAbort
-no-settled_effect v s e = no-then Anything Anything (effect_trace v e) (settled s) (no-effect v e) (λ x any. no-settled s x)
+no-settled_effect v before (Succeeds s) = no-settled before s
+no-settled_effect v before Fails = tt
+no-settled_effect v before (Writes text s) = no-written (is_body v.within) text s
+no-settled_effect v before (Raises ball) = tt
 
 no-function : (e : FunctionEffect) → NoAbort Anything (function_trace e)
 unfolding NoAbort
