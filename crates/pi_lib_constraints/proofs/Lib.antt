@@ -6,3 +6,4 @@ pub mod SideLemmas
 pub mod WithinLemmas
 pub mod CallLemmas
 pub mod NamedLemmas
+pub mod FunctionLemmas

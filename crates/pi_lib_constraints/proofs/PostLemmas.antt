@@ -253,7 +253,7 @@ filled s m (bound t) h = refl
 pub filled-stays : (s : State) (n m : ℕ) → followed (bindings s) (var n) ≡ var m → 0 < length (stored s m) → s ≡ confined_at s (root_item s (Item.Var n))
 filled-stays s n m e h = sym (ap (λ (t : Tree). confined_at s (item_of n t)) e ∙ filled s m (variable s m) h)
 
-no-domain : (d : List Span) → length d ≡ 0 → 2 ≤ size_of d → ⊥
+pub no-domain : (d : List Span) → length d ≡ 0 → 2 ≤ size_of d → ⊥
 unfolding values_of
 no-domain [] none two = omega (arith, two)
 no-domain (x ∷ d) none two = omega (arith, none)

@@ -5,3 +5,4 @@ pub mod Flattened
 pub mod Sides
 pub mod Done
 pub mod Named
+pub mod Functions

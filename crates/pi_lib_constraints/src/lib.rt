@@ -3,6 +3,7 @@
 
 mod arguments;
 mod defaults;
+mod functions;
 mod goals;
 mod keeping;
 mod kinds;
@@ -15,6 +16,7 @@ mod sides;
 mod values;
 mod within;
 
+pub use functions::{DomainFunction, call_domain_function};
 pub use goals::call_constraint;
 pub use kinds::{ConstraintGoal, GoalOfOne, GoalOfTwo};
 pub use lookup::constraint_named;
