@@ -1,9 +1,11 @@
 //! Laws of the paths of labelling and draining.
-ghost use Rattle.pi_resume_spec.specs.StageLaws.{LabellingAddsNothing, LabellingIsGuided, SolvingAddsNothing, SolvingIsGuided, DrainingAddsNothing, DrainingIsGuided};
+ghost use Rattle.pi_meaning.specs.Shared.Settle.{settled};
+ghost use Rattle.pi_resume_spec.specs.StageLaws.{SettlesOnce, LabellingAddsNothing, LabellingIsGuided, SolvingAddsNothing, SolvingIsGuided, DrainingAddsNothing, DrainingIsGuided};
 ghost use Rattle.pi_resume_spec.specs.StageMore.{LabellingFollowsMore, SolvingFollowsMore, DrainingFollowsMore};
 
-/// Labelling with the paths of its alternatives is labelling, and its paths lead apart, each to its answer.
+/// Labelling with the paths of its alternatives is labelling, and its paths lead apart, each to its answer, where settling has one answer at most, as that of the meaning has.
 pub fn labellings_have_paths()
+    ensures once { SettlesOnce settled }
     ensures plain { LabellingAddsNothing }
     ensures guided { LabellingIsGuided }
     ensures solve { SolvingAddsNothing }
