@@ -1,9 +1,9 @@
 -- The ends, the number and the list of the values that a term has.
-use Rattle.std.specs.Prelude.{◌≡◌, ℕ, zero, suc, ◌+◌, ◌-◌, ◌<◌, ◌≤◌, nat_lt, cond, ℤ, pos, neg_ℤ, ◌+ℤ◌, ◌-ℤ◌, ◌≤ℤ◌, Bool, true, false, List, [], ◌∷◌, ◌++◌, length, map, drop, get_or, slice_get, Option, Some, None, option_map, unwrap_or, Result, Ok, Err, codes, refl}
+use Rattle.std.specs.Prelude.{◌≡◌, ℕ, zero, suc, ◌+◌, ◌-◌, ◌<◌, ◌≤◌, nat_lt, cond, ℤ, pos, neg_ℤ, ◌+ℤ◌, ◌-ℤ◌, ◌≤ℤ◌, true, false, List, [], ◌∷◌, ◌++◌, length, map, drop, get_or, slice_get, Option, Some, None, option_map, unwrap_or, Result, Ok, Err, codes, refl}
 use Rattle.std.specs.Int.{int_gap}
 use Rattle.std.proofs.Common.{arith, tests, sym, ◌∙◌, ap, subst}
 use Rattle.std.proofs.lemmas.Int.{ints}
-use Rattle.pi_terms.specs.Tree.{Tree, Trees, var, int, atom, comp, args, no_trees, tree}
+use Rattle.pi_terms.specs.Tree.{Tree, Trees, var, int, atom, comp, no_trees, tree}
 use Rattle.pi_terms.specs.ListCopies.{list_cell}
 use Rattle.pi_terms.specs.ListNames.{nil, cell_name}
 use Rattle.pi_constraints.specs.declared.domain.Span.{Span}
@@ -132,7 +132,7 @@ only-listed v w made t i j e is bits =
     let s : State = v.now.state in (
       list_of (int j ∷ []),
       values-of s t (only i) (ap (domain_at s) e)
-      ∙ (few-values (only i) (let one : size_of (only i) ≡ 1 = size-only i in omega (arith, one)) ∙ (ap (λ (ns : List ℤ). Ok (list_of (map int ns))) (values-only i) ∙ ap (λ (k : ℤ). Ok (list_of (int k ∷ []))) (sym bits))),
+          ∙ (few-values (only i) (let one : size_of (only i) ≡ 1 = size-only i in omega (arith, one)) ∙ (ap (λ (ns : List ℤ). Ok (list_of (map int ns))) (values-only i) ∙ ap (λ (k : ℤ). Ok (list_of (int k ∷ []))) (sym bits))),
       is,
     )
 

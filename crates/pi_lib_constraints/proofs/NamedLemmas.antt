@@ -7,16 +7,18 @@ use Rattle.std.proofs.lemmas.Slice.Eq.{bytes_eq-Decides}
 use Rattle.pi_terms.specs.Tree.{Tree, Trees, comp, no_trees, tree, tree_count}
 use Rattle.pi_constraints.specs.State.{State, bindings, next}
 use Rattle.pi_constraints.specs.Value.{value}
-use Rattle.pi_effects.specs.Effect.{Effect}
 use Rattle.pi_effects.specs.Rows.{Row, fits, done_by, has_line}
 use Rattle.pi_prop_read.specs.declared.relations.Comparison.{Comparison}
 use Rattle.pi_prop_read.specs.declared.truths.nodes.Connective.{Connective}
 use Rattle.pi_prop_spec.specs.Postings.{posting_of}
 use Rattle.pi_prop_spec.specs.Terms.{goal_of, boolean_of, comparison_named}
+use Rattle.pi_settling.specs.DomainValues.{domain_functions, is_domain_function}
 use Rattle.pi_settling.specs.Goals.{constraint_goals, constraint_effect, is_constraint_goal}
 use Rattle.pi_settling.specs.Posted.{effect_of_posting}
 use Rattle.pi_lib_constraints.specs.Names.{goal_name, goal_arity, two_name}
-use Rattle.pi_lib_constraints.specs.Named.{IsConstraintNamed, one_named, two_named, ranged, compared, connected}
+use Rattle.pi_lib_constraints.specs.Named.{IsConstraintNamed, one_named, two_named, ranged, compared, connected, function_named}
+use Rattle.pi_lib_constraints.specs.Functions.{function_name}
+use Rattle.pi_lib_constraints.specs.declared.functions.DomainFunction.{DomainFunction}
 use Rattle.pi_lib_constraints.specs.declared.kinds.GoalOfOne.{GoalOfOne}
 use Rattle.pi_lib_constraints.specs.declared.kinds.GoalOfTwo.{GoalOfTwo}
 use Rattle.pi_lib_constraints.specs.declared.kinds.ConstraintGoal.{ConstraintGoal}
@@ -140,7 +142,7 @@ element-found name e = subst (λ (f : List ℕ). IsConstraintNamed f 3 Constrain
 -- ---- there are no others
 
 -- each line is another one, or of another number of arguments
-unfoldable AllOut : List (Row Effect) → List ℕ → ℕ → Type 0
+unfoldable AllOut : {R : Type 0} → List (Row R) → List ℕ → ℕ → Type 0
 AllOut [] name k = ⊤
 AllOut (r ∷ rows) name k = (fits r.body k ≡ true → bytes_eq name r.name ≡ false) × AllOut rows name k
 
@@ -156,7 +158,7 @@ row-out true true h = h refl
 row-out true false h = refl
 row-out false c h = refl
 
-none-line : (rows : List (Row Effect)) (name : List ℕ) (k : ℕ) → AllOut rows name k → has_line rows name k ≡ false
+none-line : {R : Type 0} (rows : List (Row R)) (name : List ℕ) (k : ℕ) → AllOut rows name k → has_line rows name k ≡ false
 unfolding AllOut has_line
 none-line [] name k h = refl
 none-line (r ∷ rows) name k h =
@@ -226,3 +228,31 @@ none-with name (suc (suc (suc (suc k)))) a b d =
 
 pub other-none : (name : List ℕ) (k : ℕ) → (k ≡ 1 → ⊥) → (k ≡ 2 → ⊥) → (k ≡ 3 → ⊥) → is_constraint_goal name k ≡ false
 other-none name k a b d = none-with name k a b d
+
+-- ---- functions of domains
+
+pub function-found : (name : List ℕ) (f : DomainFunction) → function_named name ≡ Some f → name ≡ function_name f
+function-found name f e =
+    let P : List ℕ → DomainFunction → Type 0 = λ g h. g ≡ function_name h in
+    pick P name (codes "fd_min") DomainFunction.Least f (bytes_eq name (codes "fd_min")) _ refl refl
+    (pick P name (codes "fd_max") DomainFunction.Greatest f (bytes_eq name (codes "fd_max")) _ refl refl
+    (pick P name (codes "fd_size") DomainFunction.Size f (bytes_eq name (codes "fd_size")) _ refl refl
+    (pick P name (codes "fd_dom") DomainFunction.Values f (bytes_eq name (codes "fd_dom")) None refl refl (never f (P name f))))) e
+
+pub function-none : (name : List ℕ) → function_named name ≡ None → is_domain_function name 1 ≡ false
+unfolding AllOut domain_functions
+function-none name e =
+    let a = miss (bytes_eq name (codes "fd_min")) DomainFunction.Least _ e in
+    let b = miss (bytes_eq name (codes "fd_max")) DomainFunction.Greatest _ a.1 in
+    let c = miss (bytes_eq name (codes "fd_size")) DomainFunction.Size _ b.1 in
+    let d = miss (bytes_eq name (codes "fd_dom")) DomainFunction.Values _ c.1 in
+    none-line domain_functions name 1 (λ f. a.0, (λ f. b.0, (λ f. c.0, (λ f. d.0, tt))))
+
+functions-none : (name : List ℕ) (k : ℕ) → (k ≡ 1 → ⊥) → is_domain_function name k ≡ false
+unfolding AllOut domain_functions
+functions-none name zero a = none-line domain_functions name 0 (no-fit _, (no-fit _, (no-fit _, (no-fit _, tt))))
+functions-none name (suc zero) a = absurd (a refl)
+functions-none name (suc (suc k)) a = none-line domain_functions name (suc (suc k)) (no-fit _, (no-fit _, (no-fit _, (no-fit _, tt))))
+
+pub no-function : (name : List ℕ) (k : ℕ) → (k ≡ 1 → ⊥) → is_domain_function name k ≡ false
+no-function name k a = functions-none name k a

@@ -8,6 +8,7 @@ use Rattle.pi_prop_read.specs.declared.relations.Comparison.{Comparison}
 use Rattle.pi_prop_read.specs.declared.truths.nodes.Connective.{Connective}
 use Rattle.pi_settling.specs.Goals.{constraint_effect, is_constraint_goal}
 use Rattle.pi_lib_constraints.specs.Names.{goal_name, goal_arity}
+use Rattle.pi_lib_constraints.specs.declared.functions.DomainFunction.{DomainFunction}
 use Rattle.pi_lib_constraints.specs.declared.kinds.GoalOfOne.{GoalOfOne}
 use Rattle.pi_lib_constraints.specs.declared.kinds.GoalOfTwo.{GoalOfTwo}
 use Rattle.pi_lib_constraints.specs.declared.kinds.ConstraintGoal.{ConstraintGoal}
@@ -49,3 +50,11 @@ ranged name = cond (bytes_eq name (codes "::")) (Some GoalOfTwo.Within) (cond (b
 
 abbrev pub two_named : List ℕ → Option GoalOfTwo
 two_named name = option_or (ranged name) (option_or (compared name) (connected name))
+
+-- a function of domains
+abbrev pub function_named : List ℕ → Option DomainFunction
+function_named name =
+    cond (bytes_eq name (codes "fd_min")) (Some DomainFunction.Least)
+    (cond (bytes_eq name (codes "fd_max")) (Some DomainFunction.Greatest)
+    (cond (bytes_eq name (codes "fd_size")) (Some DomainFunction.Size)
+    (cond (bytes_eq name (codes "fd_dom")) (Some DomainFunction.Values) None)))

@@ -225,12 +225,7 @@ fn width(span: Span) -> u64
 }
 
 /// Puts so many numbers, ascending from one on, in front of a list, from the last one on.
-fn put_numbers<S: StateStore>(
-    s: &mut S,
-    low: i64,
-    count: u64,
-    rest: Ref,
-) -> Result<Ref, AllocError>
+fn put_numbers<S: StateStore>(s: &mut S, low: i64, count: u64, rest: Ref) -> Result<Ref, AllocError>
     ensures stays { Stays (S.seen s.old) (S.seen s.new) }
     ensures ok { IfOk result (λ made. (t : Tree) → IsTerm (S.seen s.old) rest t →
         IsTerm (S.seen s.new) made (list_onto (map int (numbers_from low count)) t)) }

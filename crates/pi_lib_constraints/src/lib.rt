@@ -1,4 +1,4 @@
-//! Calls of goals of constraints, over any store whose domains are read where they stand.
+//! Calls of goals of constraints and of functions of domains, over any store whose domains are read where they stand.
 #![tactic(auto)]
 
 mod arguments;
@@ -19,4 +19,4 @@ mod within;
 pub use functions::{DomainFunction, call_domain_function};
 pub use goals::call_constraint;
 pub use kinds::{ConstraintGoal, GoalOfOne, GoalOfTwo};
-pub use lookup::constraint_named;
+pub use lookup::{constraint_named, domain_function_named};

@@ -1,8 +1,11 @@
-//! Which goal of constraints a name is.
+//! Which goal of constraints and which function of domains a name is.
 ghost use Rattle.std.specs.Prelude.{◌≡◌, false, IfSome, IfNone};
+ghost use Rattle.pi_settling.specs.DomainValues.{is_domain_function};
 ghost use Rattle.pi_settling.specs.Goals.{is_constraint_goal};
-ghost use Rattle.pi_lib_constraints.specs.Named.{IsConstraintNamed, one_named, two_named, ranged, compared, connected};
+ghost use Rattle.pi_lib_constraints.specs.Functions.{function_name};
+ghost use Rattle.pi_lib_constraints.specs.Named.{IsConstraintNamed, one_named, two_named, ranged, compared, connected, function_named};
 
+use crate::functions::DomainFunction;
 use crate::kinds::{ConstraintGoal, GoalOfOne, GoalOfTwo};
 use pi_prop_read::{Comparison, Connective};
 
@@ -28,6 +31,36 @@ pub fn constraint_named(name: &str, arity: usize) -> Option<ConstraintGoal>
             }
         }
         _ => None,
+    }
+}
+
+/// The function of domains with a name and this number of arguments; None exactly where there is none.
+pub fn domain_function_named(name: &str, arity: usize) -> Option<DomainFunction>
+    ensures some { IfSome result (λ f. (name.now ≡ function_name f) × (arity ≡ 1)) }
+    ensures none { IfNone result (is_domain_function name.now arity ≡ false) }
+{
+    match arity {
+        1 => match function_named(name) {
+            Some(function) => Some(function),
+            None => None,
+        },
+        _ => None,
+    }
+}
+
+fn function_named(name: &str) -> Option<DomainFunction>
+    ensures { result ≡ function_named name.now }
+{
+    if name == "fd_min" {
+        Some(DomainFunction::Least)
+    } else if name == "fd_max" {
+        Some(DomainFunction::Greatest)
+    } else if name == "fd_size" {
+        Some(DomainFunction::Size)
+    } else if name == "fd_dom" {
+        Some(DomainFunction::Values)
+    } else {
+        None
     }
 }
 

@@ -1,4 +1,4 @@
-use Rattle.std.proofs.Common.{◌≡◌, ◌∙◌, ◌<◌, ◌-◌, length, arith, rules, refl, to_z, of_z}
+use Rattle.std.proofs.Common.{◌≡◌, ◌∙◌, ◌<◌, ◌-◌, length, arith, rules, to_z, of_z}
 use Rattle.std.specs.Int.{w128}
 use Rattle.pi_constraints.specs.State.{bindings, followed}
 use Rattle.pi_constraints.specs.Stored.{stored}

@@ -1,7 +1,7 @@
-use Rattle.std.proofs.Common.{arith, rules, refl}
+use Rattle.std.proofs.Common.{arith, rules}
 use Rattle.pi_constraints.specs.State.{bindings, followed}
 use Rattle.pi_prop_spec.specs.Ends.{least_of}
-use Rattle.pi_lib_constraints.proofs.FunctionLemmas.{least-some, stored-none, int-some, atom-none, comp-none}
+use Rattle.pi_lib_constraints.proofs.FunctionLemmas.{stored-none, int-some, atom-none, comp-none}
 use Rattle.pi_lib_constraints.proofs.functions.least_at.Goals as goal
 
 pub returns-in-Int : goal.returns-in-Int

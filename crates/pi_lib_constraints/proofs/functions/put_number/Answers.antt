@@ -1,4 +1,4 @@
-use Rattle.pi_lib_constraints.proofs.FunctionLemmas.{number-shown, number-none}
+use Rattle.pi_lib_constraints.proofs.FunctionLemmas.{number-none}
 use Rattle.pi_lib_constraints.proofs.functions.put_number.Goals as goal
 
 pub returns-in-None-clause-shows : goal.returns-in-None-clause-shows

@@ -1,17 +1,17 @@
-use Rattle.std.proofs.Common.{◌≡◌, ◌∙◌, ◌<◌, ◌-◌, ◌+ℤ◌, suc, pos, map, subst, arith, rules, refl, to_z, of_z, w64}
+use Rattle.std.proofs.Common.{◌≡◌, ◌∙◌, ◌<◌, ◌-◌, ◌+ℤ◌, suc, pos, map, subst, arith, rules, to_z, of_z, w64}
 use Rattle.std.specs.Int.{w128}
 use Rattle.std.proofs.lemmas.Int.{to_z-of_z}
 use Rattle.pi_constraints.specs.Domain.{numbers_from}
 use Rattle.pi_constraints.specs.Store.{IsTerm}
 use Rattle.pi_effects.specs.Items.{list_onto}
 use Rattle.pi_terms.specs.Tree.{int}
-use Rattle.pi_unify.proofs.KeepsLemmas.{keeps_none, stays_then}
+use Rattle.pi_unify.proofs.KeepsLemmas.{stays_then}
 use Rattle.pi_lib_constraints.proofs.PostLemmas.{stays_none}
 use Rattle.pi_lib_constraints.proofs.FunctionLemmas.{span-none, span-more, span-all}
 use Rattle.pi_lib_constraints.proofs.functions.put_numbers.Goals as goal
 
 pub loop-k-init : goal.loop-k-init
-loop-k-init g c = let v = g.S.StateStore.seen c.args.s.now in record { stays = stays_none v; list = λ t is. span-none v c.args.rest (to_z w64 (of_z w64 c.args.low)) c.args.count t is; }
+loop-k-init g c = let v = g.S.StateStore.seen c.args.s.now in record { stays = stays_none v; list = λ t is. span-none v c.args.rest (to_z w64 (of_z w64 c.args.low)) c.args.count t is }
 
 pub loop-k-preserved : goal.loop-k-preserved
 loop-k-preserved g c =

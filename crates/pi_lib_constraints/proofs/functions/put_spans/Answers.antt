@@ -1,5 +1,4 @@
 use Rattle.std.proofs.Common.{◌≡◌, ◌<◌, ◌-◌, suc, pos, length, drop, map, subst, arith}
-use Rattle.pi_constraints.specs.declared.domain.Span.{Span}
 use Rattle.pi_constraints.specs.Domain.{values_of}
 use Rattle.pi_constraints.specs.Store.{IsTerm}
 use Rattle.pi_effects.specs.Items.{list_of}
@@ -11,7 +10,7 @@ use Rattle.pi_lib_constraints.proofs.functions.put_spans.Goals as goal
 
 pub loop-k-init : goal.loop-k-init
 loop-k-init g c =
-    record { stays = c.in_ok-list.ensures.ok.changes; list = spans-none (g.S.StateStore.seen c.put_atom.new.self) c.in_ok-list.list c.args.spans.now (length c.args.spans.now) (omega arith) c.in_ok-list.ensures.ok.term; }
+    record { stays = c.in_ok-list.ensures.ok.changes; list = spans-none (g.S.StateStore.seen c.put_atom.new.self) c.in_ok-list.list c.args.spans.now (length c.args.spans.now) (omega arith) c.in_ok-list.ensures.ok.term }
 
 pub put_span-requires-clause-ordered : goal.put_span-requires-clause-ordered
 put_span-requires-clause-ordered g c = span-ordered c.args.spans.now (c.loop-k.k - 1) (record { lo = pos 0; hi = pos 0 }) c.requires (omega (arith, c.loop-k-test.true, c.loop-k.auto.k))

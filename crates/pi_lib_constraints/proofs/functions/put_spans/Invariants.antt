@@ -10,4 +10,4 @@ abbrev pub invariant-loop-k : goal.invariant-loop-k
 invariant-loop-k g l =
     let v = g.S.StateStore.seen l.fn.s in
     let w = g.S.StateStore.seen l.s in
-    record { stays : Stays v w; list : IsTerm w l.list (list_of (map int (values_of (drop l.k l.spans)))); }
+    record { stays : Stays v w; list : IsTerm w l.list (list_of (map int (values_of (drop l.k l.spans)))) }
