@@ -2,6 +2,8 @@ pub mod AddLemmas
 pub mod DueLemmas
 pub mod EndLemmas
 pub mod FollowLemmas
+pub mod LeftLemmas
+pub mod LoadLemmas
 pub mod MemberLemmas
 pub mod LostLemmas
 pub mod MarkLemmas

@@ -129,10 +129,14 @@ settlement-of-goal before s calm f is may none = elim (cases_Bool (is_unchanged 
 
 -- ---- how it ends
 
+-- no agent is made by it
+none-after : {before : State} (s r : State) → LeftBy before s → IsStable s r → r.agents ≡ []
+none-after s r g stable = (settling_keeps_the_rest s r (gives_no_other s r g.state g.settles stable)).1 ∙ g.none_made
+
 by-stable : (before s r : State) → LeftBy before s → IsStable s r → settlement before s ≡ record { load = load before s r; left = Some r }
 by-stable before s r g stable =
     let is : stable_state s ≡ Some r = gives_no_other s r g.state g.settles stable in
-    let agents : r.agents ≡ [] = (settling_keeps_the_rest s r is).1 ∙ g.none_made in
+    let agents : r.agents ≡ [] = none-after s r g stable in
     settlement-of-goal before s g.calm g.follows g.state g.settles g.none_made
     ∙ (by-outcome before s (Some r) is ∙ ap (λ q. record { load = load before s r; left = Some q }) (no-events before r agents))
 
@@ -142,7 +146,7 @@ by-emptied before s g emptied =
 
 pub left-as : (before s r : State) (limit : ℕ) (old new : Work) → LeftBy before s → HasSettled before s r old new → SettlesAs (settlement before s) (worked limit old new) r Settled.Left
 left-as before s r limit old new g h =
-    subst (λ m. SettlesAs m (worked limit old new) r Settled.Left) (sym (by-stable before s r g h.stable)) (refl, stable_is_calm s r g.state g.settles h.stable, h.runs)
+    subst (λ m. SettlesAs m (worked limit old new) r Settled.Left) (sym (by-stable before s r g h.stable)) (refl, stable_is_calm s r g.state g.settles h.stable, none-after s r g h.stable, h.runs)
 
 pub lost-as : (before s r : State) (limit : ℕ) (old new : Work) → LeftBy before s → HasLost before s old new → SettlesAs (settlement before s) (worked limit old new) r Settled.Lost
 lost-as before s r limit old new g h =
@@ -177,7 +181,7 @@ none-due-stands before s due g none d = stands-so before s due g (none-of due no
 pub none-left : (before s : State) (limit : ℕ) (old : Work) (due : List ℕ) → LeftBy before s → length due ≡ 0 → IsDueFor before s due → SettlesAs (settlement before s) (worked limit old old) s Settled.Left
 none-left before s limit old due g none d =
     let it : (settlement before s ≡ nothing_to_settle s) × IsCalm s = none-due-stands before s due g none d in
-    subst (λ m. SettlesAs m (worked limit old old) s Settled.Left) (sym it.0) (refl, it.1, omega arith)
+    subst (λ m. SettlesAs m (worked limit old old) s Settled.Left) (sym it.0) (refl, it.1, g.none_made, omega arith)
 
 pub settles-as : (before s r : State) (due : List ℕ) (limit : ℕ) (old new : Work) → LeftBy before s → (settled : Settled) → ComesTo before s due (worked limit old new) r settled →
     SettlesAs (settlement before s) (worked limit old new) r settled

@@ -51,6 +51,6 @@ pub record LeftBy (before s : State) : Type 0 where
 -- What settling comes to what a goal left, by its settlement: the work before and after, what stands then, and how it ended. Where the work has reached its limit, just so where it was
 -- within it, the load is above 0, and the runs are fewer.
 abbrev pub SettlesAs : Settlement → Worked → State → Settled → Type 0
-SettlesAs m w r Settled.Left = (m.left ≡ Some r) × IsCalm r × (w.new.runs ≤ w.old.runs + m.load)
+SettlesAs m w r Settled.Left = (m.left ≡ Some r) × IsCalm r × (r.agents ≡ []) × (w.new.runs ≤ w.old.runs + m.load)
 SettlesAs m w r Settled.Lost = (m.left ≡ None) × (w.new.runs ≤ w.old.runs + m.load)
 SettlesAs m w r Settled.Spent = (w.limit ≤ work_of w.new) × (work_of w.old ≤ w.limit → work_of w.new ≡ w.limit) × (w.new.runs < w.old.runs + m.load)

@@ -11,6 +11,7 @@ use pi_queue::{Due, wake};
 use std::alloc::{AllocError, Global};
 
 /// Where a goal began: a mark, and how many constraints were posted then. (Own.)
+#[derive(Drop)]
 pub struct Since<M> {
     pub mark: M,
     pub constraints: u64,
