@@ -23,6 +23,7 @@ mod sorting;
 mod texts;
 mod variables;
 
+pub use arguments::{one, three, two};
 pub use functions::call_function;
 pub use pi_syntax::{BuiltinKind, is_builtin, prelude};
 pub use predicates::{Outcome, call_predicate};

@@ -10,13 +10,12 @@ ghost use Rattle.pi_settling.specs.Posted.{posting_goal};
 ghost use Rattle.pi_lib_constraints.specs.Done.{two_done};
 ghost use Rattle.pi_lib_constraints.specs.Names.{one_name, comparison_name, connective_name, goal_name, goal_arity};
 
-use crate::arguments::{one, three, two};
 use crate::kinds::{ConstraintGoal, GoalOfOne, GoalOfTwo};
 use crate::posting::post;
 use crate::within::{not_in, within};
 use pi_constraints::{Ref, StoredDomains};
 use pi_effects::Stop;
-use pi_lib::Outcome;
+use pi_lib::{Outcome, one, three, two};
 use pi_prop_read::{Comparison, Connective, PostingGoal};
 use std::alloc::Global;
 

@@ -1,7 +1,6 @@
 //! Calls of goals of constraints and of functions of domains, over any store whose domains are read where they stand.
 #![tactic(auto)]
 
-mod arguments;
 mod defaults;
 mod functions;
 mod goals;
