@@ -11,7 +11,8 @@ use Rattle.pi_settling.proofs.TwiceLemmas.{less_or_not}
 use Rattle.pi_queue.specs.Waiting.{AreAdded, IsOnSome}
 use Rattle.pi_queue.proofs.WaitingLemmas.{Differ, added-none, added-same, added-then, added-one}
 use Rattle.pi_engine_settle.specs.declared.since.Since.{Since}
-use Rattle.pi_engine_settle.specs.Due.{Follows, IsDueFor, SinceIs, IsOnChanged, IsOnChangedSince, IsFrom, AreOnChanged}
+use Rattle.pi_meaning.specs.Shared.Follows.{Follows}
+use Rattle.pi_engine_settle.specs.Due.{IsDueFor, SinceIs, IsOnChanged, IsOnChangedSince, IsFrom, AreOnChanged}
 use Rattle.pi_engine_settle.proofs.DueLemmas.{due-for}
 
 -- ---- those of variables that changed

@@ -35,7 +35,8 @@ use Rattle.pi_settling.proofs.CalmLemmas.{same_map_in}
 use Rattle.pi_queue.proofs.WaitingLemmas.{Differ, none-differ}
 use Rattle.pi_settling.proofs.SizeLemmas.{none-there}
 use Rattle.pi_queue.proofs.PlaceLemmas.{leads-root, root-leads, speaks-place, place-speaks}
-use Rattle.pi_engine_settle.specs.Due.{Follows, IsDueFor, IsOnChanged, IsFrom}
+use Rattle.pi_meaning.specs.Shared.Follows.{Follows}
+use Rattle.pi_engine_settle.specs.Due.{IsDueFor, IsOnChanged, IsFrom}
 use Rattle.pi_engine_settle.proofs.MemberLemmas.{IsDueAt, count-is}
 
 -- ---- domains and variables that are others

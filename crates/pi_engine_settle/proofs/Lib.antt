@@ -1,7 +1,6 @@
 pub mod AddLemmas
 pub mod DueLemmas
 pub mod EndLemmas
-pub mod FollowLemmas
 pub mod LeftLemmas
 pub mod LoadLemmas
 pub mod MemberLemmas

@@ -27,7 +27,8 @@ use Rattle.pi_meaning.proofs.Shared.SettleLemmas.{nothing_to_settle, settlement-
 use Rattle.pi_queue.specs.Ends.{Worked, worked}
 use Rattle.pi_queue.proofs.WaitingLemmas.{none-differ}
 use Rattle.pi_engine_settle.specs.declared.propagating.Settled.{Settled}
-use Rattle.pi_engine_settle.specs.Due.{Follows, IsDueFor}
+use Rattle.pi_meaning.specs.Shared.Follows.{Follows}
+use Rattle.pi_engine_settle.specs.Due.{IsDueFor}
 use Rattle.pi_engine_settle.specs.Settles.{HasSettled, HasLost, HasStopped, LeftBy, ComesTo, SettlesAs}
 use Rattle.pi_engine_settle.proofs.MemberLemmas.{IsDueAt}
 use Rattle.pi_engine_settle.proofs.DueLemmas.{old-due, new-due, due-for}

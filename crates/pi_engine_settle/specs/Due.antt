@@ -10,13 +10,6 @@ use Rattle.pi_settling.specs.Run.{ChangesNothing}
 use Rattle.pi_queue.specs.Waiting.{AreAdded}
 use Rattle.pi_engine_settle.specs.declared.since.Since.{Since}
 
--- what a goal that began in the first state may leave: constraints are only posted, variables only made, and bindings stay
-pub record Follows (before s : State) : Type 0 where
-  pub posted : List Constraint
-  pub constraints : s.constraints ≡ before.constraints ++ posted
-  pub count : next before ≤ next s
-  pub bound : (n : ℕ) (t : Tree) → held (bindings before) n ≡ Some t → held (bindings s) n ≡ Some t
-
 -- the constraints that are due after it, each once: the filter of every other one changes nothing
 pub record IsDueFor (before s : State) (due : List ℕ) : Type 0 where
   pub different : AllPairs (λ i j. i ≢ j) due

@@ -14,7 +14,8 @@ use Rattle.pi_settling.specs.Runs.{MayPropagate}
 use Rattle.pi_settling.specs.Within.{within_goal, notin_goal}
 use Rattle.pi_settling.specs.Posted.{posting_goal}
 use Rattle.pi_engine_settle.specs.declared.since.Since.{Since}
-use Rattle.pi_engine_settle.specs.Due.{Follows, IsDueFor, SinceIs}
+use Rattle.pi_meaning.specs.Shared.Follows.{Follows}
+use Rattle.pi_engine_settle.specs.Due.{IsDueFor, SinceIs}
 
 -- ---- what goals leave follows the state in which they began
 

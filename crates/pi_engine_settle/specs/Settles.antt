@@ -6,7 +6,7 @@ use Rattle.std.specs.Prelude.{None, Some}
 use Rattle.pi_constraints.specs.State.{IsState}
 use Rattle.pi_settling.specs.SettlingLaws.{MaySettle}
 use Rattle.pi_settling.specs.Calm.{IsCalm}
-use Rattle.pi_engine_settle.specs.Due.{Follows}
+use Rattle.pi_meaning.specs.Shared.Follows.{Follows}
 use Rattle.pi_settling.specs.Settle.{Settlement}
 use Rattle.pi_settling.specs.Stable.{IsStable, IsEmptied}
 use Rattle.pi_settling.specs.Load.{load, load_of_failure}

@@ -4,7 +4,8 @@ ghost use Rattle.pi_constraints.specs.State.{State, IsState};
 ghost use Rattle.pi_constraints.specs.Store.{Stays};
 ghost use Rattle.pi_settling.specs.Calm.{IsCalm};
 ghost use Rattle.pi_queue.specs.Waiting.{AreAdded};
-ghost use Rattle.pi_engine_settle.specs.Due.{Follows, IsDueFor, SinceIs, AreOnChanged, IsFrom};
+ghost use Rattle.pi_meaning.specs.Shared.Follows.{Follows};
+ghost use Rattle.pi_engine_settle.specs.Due.{IsDueFor, SinceIs, AreOnChanged, IsFrom};
 
 use pi_constraints::{Places, StateStore};
 use pi_queue::{Due, wake};

@@ -1,13 +1,15 @@
 -- Lemmas on the core meaning.
 pub mod AnswersBelow
+pub mod CalmStates
 pub mod CoreExamples
 pub mod DefinedLemmas
 pub mod FunctionsKeep
 pub mod ItemsBelow
 pub mod KeepsGoals
+pub mod KeepsNames
 pub mod KeepsRules
+pub mod LeftLemmas
 pub mod MeaningLemmas
-pub mod PlainLemmas
 pub mod QueryLemmas
 pub mod QuietCalls
 pub mod QuietGoals

@@ -1,5 +1,9 @@
 -- Lemmas on what both meanings are made of.
 pub mod CallLemmas
+pub mod ConstraintEffects
+pub mod ConstraintExamples
+pub mod EffectNames
+pub mod FollowLemmas
 pub mod FoundLemmas
 pub mod KnownLemmas
 pub mod LevelLemmas

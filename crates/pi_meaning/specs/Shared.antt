@@ -2,6 +2,8 @@
 pub mod Builtin
 pub mod Calls
 pub mod Drain
+pub mod Effects
+pub mod Follows
 pub mod Given
 pub mod Handling
 pub mod Level

@@ -1,4 +1,4 @@
--- Where no later stage is there each sound query has its run that tells paths, and its resumed run from each path.
+-- With what is built of later stages each sound query has its run that tells paths, and its resumed run from each path.
 use Rattle.std.specs.Prelude.{◌≡◌, ℕ, zero, suc, Bool, true, false, cond, nat_lt, List, ◌++◌, length, refl}
 use Rattle.std.proofs.Common.{ap}
 use Rattle.pi_core.specs.CoreTree.{PredTree, QueryTree}
@@ -10,7 +10,7 @@ use Rattle.pi_resume_spec.specs.Ways.{Way, Ways}
 use Rattle.pi_resume_spec.specs.Resumed.{a_tick, a_load, Following, on_way, reached, cut_off, bad}
 use Rattle.pi_resume_spec.specs.Longest.{path_too_long, told_paths, told_behind}
 use Rattle.pi_resume_spec.specs.ResumedCut.{ResumedStop, stops, bad_path, resumed_cut}
-use Rattle.pi_resume_spec.specs.ByName.{Offers, nothing_later, all_names}
+use Rattle.pi_resume_spec.specs.ByName.{Offers, built_searches, all_names}
 use Rattle.pi_resume_spec.specs.Queries.{query_search, resumed_query}
 use Rattle.pi_resume_spec.specs.PathRuns.{path_trace, resumed_trace}
 use Rattle.pi_resume_spec.specs.ResumedWork.{stop_of}
@@ -49,7 +49,7 @@ stop-deep (stops s) e = ap stops e
 stop-deep bad_path e = absurd cc
 
 abbrev alone : View → List PredTree → QueryTree → Offers
-alone v program q = all_names v nothing_later (program ++ q.helpers)
+alone v program q = all_names v built_searches (program ++ q.helpers)
 
 pub sound-tell : SoundQueriesTellPaths
 sound-tell most v program q sound n =

@@ -41,7 +41,7 @@ unfolding answers
 one-written true text s = one-end State (Raise (atom (codes "output_in_plan")))
 one-written false text s = one-one s
 
-one-effect : (v : View) (s : State) (e : Effect) → OneAtMost (settled_effect v s e)
+pub one-effect : (v : View) (s : State) (e : Effect) → OneAtMost (settled_effect v s e)
 one-effect v s (Succeeds r) = one-settled s r
 one-effect v s Fails = one-end State Done
 one-effect v s (Writes text r) = one-written (is_body v.within) text r

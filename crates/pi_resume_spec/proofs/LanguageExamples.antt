@@ -48,7 +48,7 @@ use Rattle.pi_terms.specs.ListCopies.{list_of_copies, new_in_all}
 use Rattle.pi_resume_spec.specs.Ways.{Ways, choice_from}
 use Rattle.pi_resume_spec.specs.Resumed.{Passing, Following, a_tick, on_way, reached, bad, rules_ways, rules_taken, with_rest, follows_then, taken_from, to_answer, on_first, to_exception, with_handler, resumed}
 use Rattle.pi_resume_spec.specs.Searches.{draining, strictly}
-use Rattle.pi_resume_spec.specs.ByName.{nothing_later, all_names, predicate_given, predicate_called, called_at_level, first_called}
+use Rattle.pi_resume_spec.specs.ByName.{built_searches, all_names, predicate_given, predicate_called, called_at_level, first_called}
 use Rattle.pi_resume_spec.specs.Goals.{search, calling, applying, collecting, counting, catching}
 use Rattle.pi_resume_spec.specs.Rules.{pred_search, rule_searches, quiet_search, searches_of, quiet_level, search_level}
 use Rattle.pi_resume_spec.specs.Queries.{query_search, resumed_query}
@@ -87,11 +87,11 @@ query g slots = record { goal = g; helpers = []; names = []; slots = slots }
 
 unfoldable trace : List PredTree → GoalTree → ℕ → ℕ → List Step
 unfolding steps_of query_search search draining strictly calling applying collecting counting catching pred_search rule_searches quiet_search searches_of quiet_level search_level predicate_given predicate_called called_at_level first_called rules_ways choice_from rules_taken with_rest follows_then taken_from to_answer on_first to_exception with_handler resumed later_predicates is_later_predicate told find_pred built_in_predicate built_in_function tests comparing_tests kind_tests writing_predicates other_predicates reading_functions integer_functions collection_functions sorting_functions index_functions range_functions naming_functions text_functions making_functions done_by list_of_copies new_in_all with_new_variables then alt first chosen negated caught collected counted evaluated evaluated_all matched_in matched_all_in drained settled settlement is_unchanged are_unchanged settlement_of_goal stable_state passes runs_of loaded count_due same_domain events_from variable_events activations activations_from thrown exception_with raised_with copy occurrences firsts all_unified unified_for outcome assigned joined in_pairs most_pairs unbound_in cells_of_pairs cells value rounds instance followed followed_for order tree_count fits_modes fact_term fact_terms watch_trees function_given value_of written atom_text each_tree is_predicate has_line
-trace program g slots d = steps_of (query_search (all_names (query_view []) nothing_later program) program (query g slots) d).ways
+trace program g slots d = steps_of (query_search (all_names (query_view []) built_searches program) program (query g slots) d).ways
 
 unfoldable from : List PredTree → GoalTree → ℕ → ℕ → List ℕ → List Step
 unfolding steps_of run_of query_search search draining strictly calling applying collecting counting catching pred_search rule_searches quiet_search searches_of quiet_level search_level predicate_given predicate_called called_at_level first_called rules_ways choice_from rules_taken with_rest follows_then taken_from to_answer on_first to_exception with_handler resumed later_predicates is_later_predicate told find_pred built_in_predicate built_in_function tests comparing_tests kind_tests writing_predicates other_predicates reading_functions integer_functions collection_functions sorting_functions index_functions range_functions naming_functions text_functions making_functions done_by list_of_copies new_in_all with_new_variables then alt first chosen negated caught collected counted evaluated evaluated_all matched_in matched_all_in drained settled settlement is_unchanged are_unchanged settlement_of_goal stable_state passes runs_of loaded count_due same_domain events_from variable_events activations activations_from thrown exception_with raised_with copy occurrences firsts all_unified unified_for outcome assigned joined in_pairs most_pairs unbound_in cells_of_pairs cells value rounds instance followed followed_for order tree_count fits_modes fact_term fact_terms watch_trees function_given value_of written atom_text each_tree is_predicate has_line
-from program g slots d path = run_of (resumed_query (all_names (query_view []) nothing_later program) program (query g slots) d path)
+from program g slots d path = run_of (resumed_query (all_names (query_view []) built_searches program) program (query g slots) d path)
 
 abbrev pub equal : Tree → Tree → GoalTree
 equal a b = call (codes "=") (a ∷ b ∷ [])

@@ -1,34 +1,50 @@
 -- The laws of the paths of the core language.
-use Rattle.std.specs.Prelude.{◌≡◌, ℕ, pos, codes, false, List, [], ◌∷◌, ◌++◌}
+use Rattle.std.specs.Prelude.{◌≡◌, ℕ, pos, codes, false, List, [], ◌∷◌, ◌++◌, Option, Some, None, option_map, unwrap_or}
 use Rattle.std.proofs.Common.{subst, append-nil}
 use Rattle.pi_resume_spec.specs.Ways.{Ways}
 use Rattle.pi_resume_spec.specs.Resumed.{Following, on_way, reached, cut_off, bad, resumed, Leads}
 use Rattle.pi_resume_spec.specs.ByName.{all_names}
 use Rattle.pi_resume_spec.specs.Queries.{query_search}
-use Rattle.pi_resume_spec.specs.LanguageLaws.{NothingIsLater, SoundIsCommitted, PathsAddNothing, GoalsAddNothing, AnswersHaveTheirPaths, RunsResume}
+use Rattle.pi_resume_spec.specs.LanguageLaws.{OneAtMost, BuiltIsLater, SoundIsCommitted, PathsAddNothing, GoalsAddNothing, AnswersHaveTheirPaths, RunsResume}
 use Rattle.pi_resume_spec.proofs.ApartLemmas.{no_two_paths_are_one}
 use Rattle.pi_resume_spec.proofs.PlainGoals.{goal-plain}
 use Rattle.pi_resume_spec.proofs.PlainRules.{query-plain}
 use Rattle.pi_resume_spec.proofs.PlainNames.{names-plain}
 use Rattle.pi_resume_spec.proofs.GuidedGoals.{query-guided}
-use Rattle.pi_resume_spec.proofs.GuidedNames.{names-offered}
-use Rattle.pi_terms.specs.Tree.{atom, int, comp, no_trees, tree, tree_count}
+use Rattle.pi_resume_spec.proofs.GuidedNames.{one-effect, names-offered}
+use Rattle.pi_terms.specs.Tree.{Trees, atom, int, comp, no_trees, tree, tree_count}
 use Rattle.pi_constraints.specs.State.{State}
 use Rattle.pi_core.specs.CoreTree.{backtracks, ClauseTree}
-use Rattle.pi_traces.specs.Trace.{Raise, Done}
+use Rattle.pi_effects.specs.Effect.{Effect, FunctionEffect, Gives, Refuses}
+use Rattle.pi_settling.specs.DomainValues.{domain_function}
+use Rattle.pi_settling.specs.Goals.{constraint_effect}
+use Rattle.pi_traces.specs.Trace.{Raise, Done, done}
+use Rattle.pi_meaning.specs.Shared.View.{View}
+use Rattle.pi_meaning.specs.Shared.Builtin.{settled_effect, function_trace}
+use Rattle.pi_meaning.specs.CoreMeaning.Instances.{built_later}
 use Rattle.pi_meaning.specs.Shared.Level.{Applied}
 use Rattle.pi_meaning.specs.Shared.Calls.{unknown_name}
 use Rattle.pi_resume_spec.proofs.PlainGoals.{plain-simple}
-use Rattle.pi_resume_spec.proofs.GuidedLemmas.{simple-guided, one-end}
+use Rattle.pi_resume_spec.proofs.GuidedLemmas.{simple-guided, one-end, one-one}
+use Rattle.pi_resume_spec.specs.Searches.{plain_level}
 
 -- ---- what is asked
 
-pub nothing-is-later : NothingIsLater
-nothing-is-later = record {
-  plain = λ v l name ts s e. plain-simple (unknown_name name (tree_count ts));
-  guided = λ v l h name ts s e. simple-guided (unknown_name name (tree_count ts)) (one-end State (Raise (comp (codes "unknown_name") (tree (atom name) (tree (int (pos (tree_count ts))) no_trees)))));
-  others = λ v l name ts s e. one-end State (Raise (comp (codes "unknown_name") (tree (atom name) (tree (int (pos (tree_count ts))) no_trees))));
-  functions = λ name ts s. one-end Applied Done;
+one-built : (v : View) (name : List ℕ) (ts : Trees) (s : State) (o : Option Effect) → OneAtMost (unwrap_or (option_map (settled_effect v s) o) (unknown_name name (tree_count ts)))
+one-built v name ts s None = one-end State (Raise (comp (codes "unknown_name") (tree (atom name) (tree (int (pos (tree_count ts))) no_trees))))
+one-built v name ts s (Some e) = one-effect v s e
+
+one-value : (o : Option FunctionEffect) → OneAtMost (unwrap_or (option_map function_trace o) done)
+one-value None = one-end Applied Done
+one-value (Some (Gives t s)) = one-one (record { value = t; state = s })
+one-value (Some (Refuses ball)) = one-end Applied (Raise ball)
+
+pub built-is-later : BuiltIsLater
+built-is-later = record {
+  plain = λ v l name ts s e. plain-simple (built_later.predicate v (plain_level l) name ts s);
+  guided = λ v l h name ts s e. simple-guided (built_later.predicate v (plain_level l) name ts s) (one-built v name ts s (constraint_effect name ts s));
+  others = λ v l name ts s e. one-built v name ts s (constraint_effect name ts s);
+  functions = λ name ts s. one-value (domain_function name ts s);
 }
 
 backtracks-none : (c : ClauseTree) → c.back ≡ false → c.watches ≡ [] → backtracks c.back c.watches ≡ false

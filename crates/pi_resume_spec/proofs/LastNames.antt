@@ -1,4 +1,4 @@
--- All names of the language last as long as their level is deep, in both runs, where no later stage is there; and so each resumed run has a depth for each cut.
+-- All names of the language last as long as their level is deep, in both runs, with what is built of later stages; and so each resumed run has a depth for each cut.
 use Rattle.std.specs.Prelude.{◌≡◌, ℕ, suc, ◌-◌, ◌≤◌, Bool, true, false, cond, ◌||◌, List, [], ◌++◌, length, Option, Some, None, option_map, is_some, codes, refl}
 use Rattle.std.specs.Option.{option_or}
 use Rattle.std.proofs.Common.{arith, sym, ◌∙◌, ap}
@@ -20,15 +20,15 @@ use Rattle.pi_meaning.specs.Shared.Names.{is_later_predicate, is_planner, is_cat
 use Rattle.pi_meaning.specs.Shared.Builtin.{settled_effect}
 use Rattle.pi_meaning.specs.Shared.Calls as over_levels
 use Rattle.pi_meaning.specs.Shared.Calls.{Called, called_by, unknown_name, is_known}
-use Rattle.pi_meaning.specs.CoreMeaning.Instances.{is_called_by_name, core_setting, no_later}
+use Rattle.pi_meaning.specs.CoreMeaning.Instances.{is_called_by_name, core_setting, built_later}
 use Rattle.pi_meaning.specs.CoreMeaning.Quiet.{TicksBetween}
 use Rattle.pi_meaning.specs.CoreMeaning.Run.{Solution}
 use Rattle.pi_meaning.proofs.Shared.KnownLemmas.{given-known, planner-later}
 use Rattle.pi_meaning.proofs.CoreMeaning.QuietGoals.{worth, counted as counts, worth-counted, settled-lasts, settled-effect-lasts}
-use Rattle.pi_meaning.proofs.CoreMeaning.QuietCalls.{whole-lasts}
+use Rattle.pi_meaning.proofs.CoreMeaning.QuietCalls.{built-predicate-lasts, whole-lasts}
 use Rattle.pi_resume_spec.specs.Resumed.{Search, simple, sequence, ticked}
 use Rattle.pi_resume_spec.specs.Searches.{SearchLevel, bottom, above, searches_at, plain_level, too_deep}
-use Rattle.pi_resume_spec.specs.ByName.{Offers, nothing_later, later_search, is_solve, SearchSetting, or_searched, built_in, given_later, predicate_given, predicate_called, handled_in, handling, with_planner, known_called, Deeper, call_goal, catch_called, again_called, term_called, called_at_level, first_called, search_setting, all_names}
+use Rattle.pi_resume_spec.specs.ByName.{Offers, built_searches, later_search, is_solve, SearchSetting, or_searched, built_in, given_later, predicate_given, predicate_called, handled_in, handling, with_planner, known_called, Deeper, call_goal, catch_called, again_called, term_called, called_at_level, first_called, search_setting, all_names}
 use Rattle.pi_resume_spec.specs.Queries.{query_search, resumed_query}
 use Rattle.pi_resume_spec.specs.ResumedCut.{ResumedWithoutDeep}
 use Rattle.pi_resume_spec.proofs.LastLemmas.{SearchLasts, less-search, none-search, simple-lasts, sequence-lasts, catch-lasts as caught-lasts, tick-lasts, resumed-lasts, resumed-cut_lasts}
@@ -56,21 +56,23 @@ some-lasts d false s o a b = b
 -- ---- what a name does by itself
 
 abbrev alone : View → List PredTree → SearchSetting
-alone v preds = search_setting v nothing_later preds
+alone v preds = search_setting v built_searches preds
 
 effect-lasts : (v : View) (d : ℕ) (s : State) (o : Option Effect) → OptionSearchLasts d (option_map (λ e. simple (settled_effect v s e)) o)
 effect-lasts v d s None = tt
 effect-lasts v d s (Some e) = simple-lasts Any any-falls d (settled_effect v s e) (settled-effect-lasts d v s e)
 
-later-lasts : (v : View) (d : ℕ) (l : SearchLevel) (name : List ℕ) (ts : Trees) (s : State) → SearchLasts Any d (later_search nothing_later v l name ts s)
+later-lasts : (v : View) (d : ℕ) (l : SearchLevel) (name : List ℕ) (ts : Trees) (s : State) → SearchLasts Any d (later_search built_searches v l name ts s)
 later-lasts v d l name ts s =
-    cond-lasts d (is_solve name (tree_count ts)) (simple (unknown_name name (tree_count ts))) (simple (unknown_name name (tree_count ts))) (unknown-lasts d name (tree_count ts)) (unknown-lasts d name (tree_count ts))
+    let t : Search State = simple (built_later.predicate v (plain_level l) name ts s) in
+    let lasts : SearchLasts Any d t = simple-lasts Any any-falls d (built_later.predicate v (plain_level l) name ts s) (built-predicate-lasts d v name ts s) in
+    cond-lasts d (is_solve name (tree_count ts)) t t lasts lasts
 
 given-lasts : (v : View) (preds : List PredTree) (d : ℕ) (l : SearchLevel) (name : List ℕ) (ts : Trees) (s : State) → OptionSearchLasts d (predicate_given (alone v preds) l name ts s)
 unfolding predicate_given
 given-lasts v preds d l name ts s =
     or-lasts d (built_in (alone v preds) name ts s) (given_later (alone v preds) l name ts s) (effect-lasts v d s (built_in_predicate name ts s))
-    (some-lasts d (is_later_predicate name (tree_count ts)) (later_search nothing_later v l name ts s) None (later-lasts v d l name ts s) tt)
+    (some-lasts d (is_later_predicate name (tree_count ts)) (later_search built_searches v l name ts s) None (later-lasts v d l name ts s) tt)
 
 -- ---- calls by name
 
@@ -81,11 +83,11 @@ none-too None f g false x y is = refl
 none-too (Some e) f g later x y is = absurd cc
 
 given-none : (v : View) (preds : List PredTree) (l : SearchLevel) (name : List ℕ) (ts : Trees) (s : State) → predicate_given (alone v preds) l name ts s ≡ None →
-    over_levels.predicate_given (core_setting v no_later preds) (plain_level l) name ts s ≡ None
+    over_levels.predicate_given (core_setting v built_later preds) (plain_level l) name ts s ≡ None
 unfolding predicate_given over_levels.predicate_given
 given-none v preds l name ts s is =
-    none-too (built_in_predicate name ts s) (λ e. simple (settled_effect v s e)) (settled_effect v s) (is_later_predicate name (tree_count ts)) (later_search nothing_later v l name ts s)
-    (no_later.predicate v (plain_level l) name ts s) is
+    none-too (built_in_predicate name ts s) (λ e. simple (settled_effect v s e)) (settled_effect v s) (is_later_predicate name (tree_count ts)) (later_search built_searches v l name ts s)
+    (built_later.predicate v (plain_level l) name ts s) is
 
 -- a name that does nothing by itself is found
 Finds : View → List PredTree → SearchLevel → List ℕ → Trees → State → Type 0
@@ -103,11 +105,11 @@ unfolding predicate_called Finds
 predicate-lasts v preds r f d l h last name ts s found =
     called-lasts preds r f d l h last name ts s (predicate_given (alone v preds) l name ts s) (given-lasts v preds d l name ts s) found
 
-known-finds : (v : View) (preds : List PredTree) (l : SearchLevel) (name : List ℕ) (ts : Trees) (s : State) → is_known (core_setting v no_later preds) name (tree_count ts) ≡ true → Finds v preds l name ts s
+known-finds : (v : View) (preds : List PredTree) (l : SearchLevel) (name : List ℕ) (ts : Trees) (s : State) → is_known (core_setting v built_later preds) name (tree_count ts) ≡ true → Finds v preds l name ts s
 unfolding Finds
 known-finds v preds l name ts s known none =
     go (is_predicate name (tree_count ts)) (is_later_predicate name (tree_count ts)) (is_called_by_name (find_pred false name (tree_count ts) preds))
-    (sym (given-known (core_setting v no_later preds) (plain_level l) name ts s) ∙ ap is_some (given-none v preds l name ts s none)) known
+    (sym (given-known (core_setting v built_later preds) (plain_level l) name ts s) ∙ ap is_some (given-none v preds l name ts s none)) known
   where
     go : (table later own : Bool) → (table || later) ≡ false → (table || (later || own)) ≡ true → own ≡ true
     go true later own given is = absurd cc
@@ -118,7 +120,7 @@ later-finds : (v : View) (preds : List PredTree) (l : SearchLevel) (name : List 
 unfolding Finds
 later-finds v preds l name ts s later none =
     go (is_predicate name (tree_count ts)) (is_later_predicate name (tree_count ts))
-    (sym (given-known (core_setting v no_later preds) (plain_level l) name ts s) ∙ ap is_some (given-none v preds l name ts s none)) later
+    (sym (given-known (core_setting v built_later preds) (plain_level l) name ts s) ∙ ap is_some (given-none v preds l name ts s none)) later
   where
     go : (table given : Bool) → (table || given) ≡ false → given ≡ true → is_called_by_name (find_pred false name (tree_count ts) preds) ≡ true
     go true given none is = absurd cc
@@ -135,17 +137,17 @@ known-lasts v preds r f d l h last name ts s = planner (is_planner name k) refl
     called : Search State
     called = predicate_called (alone v preds) l name ts s
 
-    known : (c : Bool) → is_known (core_setting v no_later preds) name k ≡ c → SearchLasts Any d (cond c called (simple (unknown_name name k)))
+    known : (c : Bool) → is_known (core_setting v built_later preds) name k ≡ c → SearchLasts Any d (cond c called (simple (unknown_name name k)))
     known true is = predicate-lasts v preds r f d l h last name ts s (known-finds v preds l name ts s is)
     known false is = unknown-lasts d name k
 
-    planner : (c : Bool) → is_planner name k ≡ c → SearchLasts Any d (cond c (with_planner (alone v preds) called) (cond (is_known (core_setting v no_later preds) name k) called (simple (unknown_name name k))))
+    planner : (c : Bool) → is_planner name k ≡ c → SearchLasts Any d (cond c (with_planner (alone v preds) called) (cond (is_known (core_setting v built_later preds) name k) called (simple (unknown_name name k))))
     planner true is =
         cond-lasts d ((alone v preds).defines (codes "final") 1) (cond ((alone v preds).defines (codes "action") 4) called (simple (unknown_name (codes "action") 4))) (simple (unknown_name (codes "final") 1))
         (cond-lasts d ((alone v preds).defines (codes "action") 4) called (simple (unknown_name (codes "action") 4))
         (predicate-lasts v preds r f d l h last name ts s (later-finds v preds l name ts s (planner-later name k is))) (unknown-lasts d (codes "action") 4))
         (unknown-lasts d (codes "final") 1)
-    planner false is = known (is_known (core_setting v no_later preds) name k) refl
+    planner false is = known (is_known (core_setting v built_later preds) name k) refl
 
 -- ---- `call`
 
@@ -210,7 +212,7 @@ first-lasts v preds r f d (above c l) h last (tree t ts) s = at-level v preds r 
 
 -- ---- all names of the language, and queries
 
-pub names-last : (v : View) (preds : List PredTree) (r : TicksBetween preds) → OffersLast preds r (all_names v nothing_later preds)
+pub names-last : (v : View) (preds : List PredTree) (r : TicksBetween preds) → OffersLast preds r (all_names v built_searches preds)
 names-last v preds r = record {
   predicates = λ f d l h last name ts s.
       some-lasts d (is_call name (tree_count ts)) (first_called (alone v preds) l ts s) (predicate_given (alone v preds) l name ts s) (first-lasts v preds r f d l h last ts s) (given-lasts v preds d l name ts s);
@@ -219,9 +221,9 @@ names-last v preds r = record {
 
 -- a depth of twice n + 1 reaches to Tick number n + 1
 pub resumed-reaches : (v : View) (program : List PredTree) (q : QueryTree) → TicksBetween (program ++ q.helpers) → (path : List ℕ) (n : ℕ) →
-    (d : ℕ) × ResumedWithoutDeep n (resumed_query (all_names v nothing_later (program ++ q.helpers)) program q d path)
+    (d : ℕ) × ResumedWithoutDeep n (resumed_query (all_names v built_searches (program ++ q.helpers)) program q d path)
 resumed-reaches v program q r path n =
-    let b : Offers = all_names v nothing_later (program ++ q.helpers) in
+    let b : Offers = all_names v built_searches (program ++ q.helpers) in
     let s : Search Solution = query_search b program q (twice (suc n)) in
     let lasts : SearchLasts Any (suc n) s = query-lasts b program q r (names-last v (program ++ q.helpers) r) (suc n) in
     (twice (suc n), resumed-cut_lasts Any n (resumed_query b program q (twice (suc n)) path) (resumed-lasts Any (suc n) (s.follows path) (lasts.follows path)))

@@ -15,7 +15,7 @@ use Rattle.pi_resume_spec.specs.Longest.{told_paths, told_behind}
 use Rattle.pi_resume_spec.specs.ResumedCut.{ResumedStop, stops, bad_path, ResumedCut, resumed_cut}
 use Rattle.pi_resume_spec.specs.PathRuns.{path_trace, resumed_trace, IsResumedRun}
 use Rattle.pi_resume_spec.specs.Resumed.{simple}
-use Rattle.pi_resume_spec.specs.ByName.{LaterSearches, nothing_later, all_names}
+use Rattle.pi_resume_spec.specs.ByName.{LaterSearches, built_searches, all_names}
 use Rattle.pi_resume_spec.specs.ResumedWork.{query_behind}
 use Rattle.pi_solve_spec.specs.WorkBounds.{run_loads}
 use Rattle.pi_resume_spec.proofs.LanguageExamples.{query, goals, n, member, member_goal, p, p_of, a, b, c}
@@ -96,13 +96,13 @@ ended e = stops (Ended e)
 unfoldable run : List PredTree → GoalTree → ℕ → ℕ → Shown
 unfolding seen told_paths cut query_search search draining strictly calling applying collecting counting catching pred_search rule_searches quiet_search searches_of quiet_level search_level predicate_given predicate_called called_at_level first_called rules_ways choice_from rules_taken with_rest follows_then taken_from to_answer on_first to_exception with_handler resumed later_predicates is_later_predicate told find_pred built_in_predicate built_in_function tests comparing_tests kind_tests writing_predicates other_predicates reading_functions integer_functions collection_functions sorting_functions index_functions range_functions naming_functions text_functions making_functions done_by list_of_copies new_in_all with_new_variables then alt first chosen negated caught collected counted evaluated evaluated_all matched_in matched_all_in drained settled settlement is_unchanged are_unchanged settlement_of_goal stable_state passes runs_of loaded count_due same_domain events_from variable_events activations activations_from thrown exception_with raised_with copy occurrences firsts all_unified unified_for outcome assigned joined in_pairs most_pairs unbound_in cells_of_pairs cells value rounds instance followed followed_for order tree_count fits_modes fact_term fact_terms watch_trees function_given value_of written atom_text each_tree is_predicate has_line
 run program g most steps =
-    let k : Cut (Way Solution) = cut steps (path_trace most (all_names (query_view []) nothing_later program) program (query g 1) 6) in
+    let k : Cut (Way Solution) = cut steps (path_trace most (all_names (query_view []) built_searches program) program (query g 1) 6) in
     shows (seen k.events) (stops k.stop)
 
 unfoldable from : List PredTree → GoalTree → ℕ → ℕ → List ℕ → Shown
 unfolding seen told_paths told_behind cut resumed_cut query_search search draining strictly calling applying collecting counting catching pred_search rule_searches quiet_search searches_of quiet_level search_level predicate_given predicate_called called_at_level first_called rules_ways choice_from rules_taken with_rest follows_then taken_from to_answer on_first to_exception with_handler resumed later_predicates is_later_predicate told find_pred built_in_predicate built_in_function tests comparing_tests kind_tests writing_predicates other_predicates reading_functions integer_functions collection_functions sorting_functions index_functions range_functions naming_functions text_functions making_functions done_by list_of_copies new_in_all with_new_variables then alt first chosen negated caught collected counted evaluated evaluated_all matched_in matched_all_in drained settled settlement is_unchanged are_unchanged settlement_of_goal stable_state passes runs_of loaded count_due same_domain events_from variable_events activations activations_from thrown exception_with raised_with copy occurrences firsts all_unified unified_for outcome assigned joined in_pairs most_pairs unbound_in cells_of_pairs cells value rounds instance followed followed_for order tree_count fits_modes fact_term fact_terms watch_trees function_given value_of written atom_text each_tree is_predicate has_line
 from program g most steps path =
-    let k : ResumedCut (Way Solution) = resumed_cut steps (resumed_trace most (all_names (query_view []) nothing_later program) program (query g 1) path 6) in
+    let k : ResumedCut (Way Solution) = resumed_cut steps (resumed_trace most (all_names (query_view []) built_searches program) program (query g 1) path 6) in
     shows (seen k.events) k.stop
 
 abbrev too_long : ResumedStop

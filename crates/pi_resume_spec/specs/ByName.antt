@@ -19,7 +19,7 @@ use Rattle.pi_meaning.specs.Shared.Names.{is_later_predicate, is_planner, is_cat
 use Rattle.pi_meaning.specs.Shared.Given.{Later, Setting}
 use Rattle.pi_meaning.specs.Shared.Calls.{Called, called_by, unknown_name, is_known}
 use Rattle.pi_meaning.specs.CoreMeaning.Builtins.{Builtins}
-use Rattle.pi_meaning.specs.CoreMeaning.Instances.{is_called_by_name, no_later, whole}
+use Rattle.pi_meaning.specs.CoreMeaning.Instances.{is_called_by_name, built_later, whole}
 use Rattle.pi_resume_spec.specs.Resumed.{Search, simple, sequence, caught_search, ticked}
 use Rattle.pi_resume_spec.specs.Searches.{SearchLevel, bottom, above, plain_level, searches_at, too_deep}
 
@@ -35,9 +35,9 @@ is_solve name k = (k == 1 || k == 2) && bytes_eq name (codes "solve")
 abbrev pub later_search : LaterSearches → View → SearchLevel → List ℕ → Trees → State → Search State
 later_search later v l name ts s = cond (is_solve name (tree_count ts)) (later.solves v l name ts s) (simple (later.plain.predicate v (plain_level l) name ts s))
 
--- no later stage is there
-abbrev pub nothing_later : LaterSearches
-nothing_later = record { plain = no_later; solves = λ v l name ts s. simple (unknown_name name (tree_count ts)) }
+-- what is built of them: no goal of theirs makes choices
+abbrev pub built_searches : LaterSearches
+built_searches = record { plain = built_later; solves = λ v l name ts s. simple (built_later.predicate v (plain_level l) name ts s) }
 
 pub record SearchSetting : Type 0 where
   pub view : View

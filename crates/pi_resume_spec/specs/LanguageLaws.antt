@@ -14,7 +14,7 @@ use Rattle.pi_meaning.specs.CoreMeaning.Run.{Solution, query_trace}
 use Rattle.pi_resume_spec.specs.Ways.{Way, Ways, Apart}
 use Rattle.pi_resume_spec.specs.Resumed.{Search, resumed, At, Leads, IsResumable}
 use Rattle.pi_resume_spec.specs.Searches.{Searches, SearchLevel, bottom, above, Spot, point_of, plain_level, without_paths}
-use Rattle.pi_resume_spec.specs.ByName.{LaterSearches, is_solve, nothing_later, all_names}
+use Rattle.pi_resume_spec.specs.ByName.{LaterSearches, is_solve, built_searches, all_names}
 use Rattle.pi_resume_spec.specs.Goals.{search}
 use Rattle.pi_resume_spec.specs.Queries.{query_search}
 
@@ -52,9 +52,9 @@ QuietIsCommitted preds = (pred : PredTree) → Contains preds pred → IsTrue pr
 
 -- ---- laws
 
--- where no later stage is there, this is met; and sound programs meet the premise on quiet predicates
-abbrev pub NothingIsLater : Type 0
-NothingIsLater = IsLater nothing_later
+-- what is built of them meets this; and sound programs meet the premise on quiet predicates
+abbrev pub BuiltIsLater : Type 0
+BuiltIsLater = IsLater built_searches
 
 abbrev pub SoundIsCommitted : Type 0
 SoundIsCommitted = (preds : List PredTree) → IsSound preds → QuietIsCommitted preds

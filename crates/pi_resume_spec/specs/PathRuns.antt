@@ -11,7 +11,7 @@ use Rattle.pi_resume_spec.specs.Ways.{Way, Ways}
 use Rattle.pi_resume_spec.specs.Resumed.{Following}
 use Rattle.pi_resume_spec.specs.Longest.{told_paths, told_behind}
 use Rattle.pi_resume_spec.specs.ResumedCut.{ResumedCut, resumed_cut, ResumedWithoutDeep}
-use Rattle.pi_resume_spec.specs.ByName.{Offers, nothing_later, all_names}
+use Rattle.pi_resume_spec.specs.ByName.{Offers, built_searches, all_names}
 use Rattle.pi_resume_spec.specs.Queries.{query_search, resumed_query}
 
 -- what a program does with a query, with paths of so many numbers at most, at a depth
@@ -34,10 +34,10 @@ pub record IsResumedRunUnder (most : ℕ) (b : Offers) (program : List PredTree)
   pub reaches : ResumedWithoutDeep n (resumed_trace most b program q path depth)
   pub is_cut : c ≡ resumed_cut n (resumed_trace most b program q path depth)
 
--- These with all names of the language, where no later stage is there, under a log of planner calls, where none is being answered. The longest path that is told is the longest
+-- These with all names of the language, with what is built of later stages, under a log of planner calls, where none is being answered. The longest path that is told is the longest
 -- one that has a text.
 abbrev pub IsPathRun : List PredTree → QueryTree → List LogEntry → ℕ → Cut (Way Solution) → Type 0
-IsPathRun program q log n c = IsPathRunUnder most_numbers (all_names (query_view log) nothing_later (program ++ q.helpers)) program q n c
+IsPathRun program q log n c = IsPathRunUnder most_numbers (all_names (query_view log) built_searches (program ++ q.helpers)) program q n c
 
 abbrev pub IsResumedRun : List PredTree → QueryTree → List LogEntry → List ℕ → ℕ → ResumedCut (Way Solution) → Type 0
-IsResumedRun program q log path n c = IsResumedRunUnder most_numbers (all_names (query_view log) nothing_later (program ++ q.helpers)) program q path n c
+IsResumedRun program q log path n c = IsResumedRunUnder most_numbers (all_names (query_view log) built_searches (program ++ q.helpers)) program q path n c

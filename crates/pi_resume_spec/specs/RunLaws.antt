@@ -14,7 +14,7 @@ use Rattle.pi_resume_spec.specs.Ways.{Way, Ways}
 use Rattle.pi_resume_spec.specs.Resumed.{Following, At, Leads}
 use Rattle.pi_resume_spec.specs.Longest.{path_too_long, told_paths}
 use Rattle.pi_resume_spec.specs.ResumedCut.{stops, bad_path, ResumedCut, behind_way, resumed_cut, ResumedWithoutDeep, passings, ticks_among, with_passings, IsBad, IsCutOff}
-use Rattle.pi_resume_spec.specs.ByName.{LaterSearches, Offers, nothing_later, all_names}
+use Rattle.pi_resume_spec.specs.ByName.{LaterSearches, Offers, built_searches, all_names}
 use Rattle.pi_resume_spec.specs.Queries.{query_search, resumed_query}
 use Rattle.pi_resume_spec.specs.PathRuns.{path_trace, resumed_trace, IsPathRunUnder, IsResumedRunUnder}
 use Rattle.pi_resume_spec.specs.ResumedWork.{loads_among, query_behind}
@@ -69,8 +69,8 @@ MoreDepthLeavesCuts A = (n : ℕ) (f g : Following A) → FollowsBelow f g → R
 abbrev pub NamesOnlyAdd : Type 0
 NamesOnlyAdd = (v : View) (later : LaterSearches) → LaterSearchesAdd later → (preds : List PredTree) → OffersOnlyAdd (all_names v later preds)
 
-abbrev pub NothingLaterAdds : Type 0
-NothingLaterAdds = LaterSearchesAdd nothing_later
+abbrev pub BuiltSearchesAdd : Type 0
+BuiltSearchesAdd = LaterSearchesAdd built_searches
 
 -- each depth adds to a query's ways, and to what it does by a path, at the depth before
 abbrev pub PathsDoMore : Type 0
@@ -118,21 +118,21 @@ ToldPathsAreGood = (most : ℕ) (v : View) (later : LaterSearches) → IsLater l
     At (path_trace most (all_names v later (program ++ q.helpers)) program q d) w rest → (n : ℕ) →
     (resumed_cut n (resumed_trace most (all_names v later (program ++ q.helpers)) program q w.path d)).stop ≢ bad_path
 
--- ---- each sound query has its run, where no later stage is there
+-- ---- each sound query has its run, with what is built of later stages
 
 abbrev pub SoundQueriesTellPaths : Type 0
 SoundQueriesTellPaths = (most : ℕ) (v : View) (program : List PredTree) (q : QueryTree) → IsSoundQuery program q → (n : ℕ) →
-    (c : Cut (Way Solution)) × IsPathRunUnder most (all_names v nothing_later (program ++ q.helpers)) program q n c
+    (c : Cut (Way Solution)) × IsPathRunUnder most (all_names v built_searches (program ++ q.helpers)) program q n c
 
 -- and its resumed run from each path
 abbrev pub SoundQueriesAreResumed : Type 0
 SoundQueriesAreResumed = (most : ℕ) (v : View) (program : List PredTree) (q : QueryTree) → IsSoundQuery program q → (path : List ℕ) (n : ℕ) →
-    (c : ResumedCut (Way Solution)) × IsResumedRunUnder most (all_names v nothing_later (program ++ q.helpers)) program q path n c
+    (c : ResumedCut (Way Solution)) × IsResumedRunUnder most (all_names v built_searches (program ++ q.helpers)) program q path n c
 
 -- and so that has a depth that reaches to the cut, as a query, under each log
 abbrev pub SoundQueriesReach : Type 0
 SoundQueriesReach = (program : List PredTree) (q : QueryTree) → IsSoundQuery program q → (path : List ℕ) (steps : ℕ) (log : List LogEntry) →
-    (depth : ℕ) × ReachesToCut (query_behind nothing_later program q path steps) log depth
+    (depth : ℕ) × ReachesToCut (query_behind built_searches program q path steps) log depth
 
 -- ---- the work of a resumed run
 

@@ -58,7 +58,7 @@ use Rattle.pi_meaning.specs.CoreMeaning.Meaning.{draining, strictly, calling, ap
 use Rattle.pi_meaning.specs.CoreMeaning.Rules.{pred_run, function_run, calls_of, rules, quiet_level, level_at}
 use Rattle.pi_meaning.specs.CoreMeaning.Run.{told}
 use Rattle.pi_meaning.specs.OverNames.Texts.{places, places_all, places_caught, places_of_branches, occurring, occurring_all, occurring_in_branches, behind, patterns_of, assigned as assigned_names, assigned_all, assigned_in_branches}
-use Rattle.pi_meaning.specs.OverNames.Stages.{no_stages}
+use Rattle.pi_meaning.specs.OverNames.Stages.{built_stages}
 use Rattle.pi_meaning.specs.OverNames.Assigning.{with_value, with_names}
 use Rattle.pi_meaning.specs.OverNames.Terms.{items_onto, written_term, written_terms}
 use Rattle.pi_meaning.specs.OverNames.Heads.{pattern_matched, patterns_matched, items_matched}
@@ -92,11 +92,11 @@ unfolding query_from told named_values draining strictly calling applying collec
 over_slots goal d =
     let preds : List PredTree = core_program own [] in
     let q : QueryTree = core_query own goal in
-    told_trace (solution_told q.names) (query_from (whole (query_view []) no_stages.calls (preds ++ q.helpers)) preds q d empty_state)
+    told_trace (solution_told q.names) (query_from (whole (query_view []) built_stages.calls (preds ++ q.helpers)) preds q d empty_state)
 
 unfoldable over_names : ExpTree → ℕ → Trace Told
 unfolding names_trace names_from told_behind told_values if_tellable then alt first negated chosen collected counted caught settled settlement is_unchanged are_unchanged settlement_of_goal stable_state passes runs_of loaded count_due same_domain events_from variable_events activations activations_from drained raised_with meant places places_caught places_all places_of_branches occurring occurring_all occurring_in_branches behind patterns_of assigned_names assigned_all assigned_in_branches with_value with_names items_onto written_term written_terms pattern_matched patterns_matched items_matched later_predicates is_later_predicate is_later_function predicate_given predicate_called function_given function_called called_at_level first_called names_draining names_strictly applied_to all_found all_counted called_with calling_term choosing denying taken_once names_catching goal_at value_at closed elements iterating turning while_turns do_turns comprehended form_of atom_goal readings operand_readings call_value range_value indexed_by value_of values_of values_in values_apart goals_in goal_of all_of any_of arrow_in branches_of units_of collection_of modes_named rules_called facts_called functions_called calls_by level_for prelude exp_count list_of_copies new_in_all built_in_function built_in_predicate is_predicate has_line tests comparing_tests kind_tests writing_predicates other_predicates reading_functions done_by integer_functions collection_functions sorting_functions index_functions range_functions naming_functions text_functions making_functions total indexed values_by each_tree list_onto items_for list_items thrown exception_with type_error tree_count cells order occurrences firsts instance copy rounds value followed_for followed in_pairs assigned joined outcome unified_for unbound_in cells_of_pairs most_pairs all_unified with_new_variables power operation is_reserved is_unquoted_atom stands_bare atom_text is_characters characters written chars encode_utf8 digits
-over_names goal d = told_trace (place_told (answer_names goal)) (names_trace (query_view []) no_stages [] goal d)
+over_names goal d = told_trace (place_told (answer_names goal)) (names_trace (query_view []) built_stages [] goal d)
 
 -- at one depth; and at several, one of which no turn reaches
 abbrev Same : ExpTree → ℕ → Type 0

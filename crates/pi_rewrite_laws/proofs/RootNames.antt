@@ -1,20 +1,26 @@
 -- Calls by name keep what terms are followed to, where unification does, and where what later stages give does.
 use Rattle.std.proofs.Common.{◌≡◌, ℕ, Bool, true, false, cond, List, [], inl, inr, refl, sym, subst}
-use Rattle.std.specs.Prelude.{Option, Some, None, option_map, codes}
+use Rattle.std.specs.Prelude.{Option, Some, None, Ok, Err, option_map, unwrap_or, codes}
 use Rattle.std.specs.Option.{option_or}
-use Rattle.std.proofs.lemmas.List.Elements.{All-nil}
-use Rattle.pi_terms.specs.Tree.{Tree, Trees, no_trees, tree, tree_count}
+use Rattle.pi_terms.specs.Tree.{Tree, atom, comp, Trees, no_trees, tree, tree_count}
 use Rattle.pi_terms.specs.Copy.{copy, new_variables}
 use Rattle.pi_constraints.specs.State.{State, next, bindings, followed}
 use Rattle.pi_constraints.specs.Unify.{unified}
 use Rattle.pi_constraints.specs.Evaluation.{with_new_variables}
 use Rattle.pi_effects.specs.Effect.{Effect, Succeeds, Fails, Writes, Raises, FunctionEffect, Gives, Refuses}
-use Rattle.pi_effects.specs.BuiltIns.{built_in_predicate, built_in_function, OnlyMakesVariables, OnlyUnifies}
+use Rattle.pi_effects.specs.Answer.{Answer}
+use Rattle.pi_effects.specs.BuiltIns.{answer_in, built_in_predicate, built_in_function, OnlyMakesVariables, OnlyUnifies}
+use Rattle.pi_effects.specs.Rows.{done_by}
 use Rattle.pi_effects.specs.Items.{each_tree}
 use Rattle.pi_effects.proofs.BuiltInLemmas.{functions-make, predicates-unify}
 use Rattle.pi_core.specs.CoreTree.{PredTree}
-use Rattle.pi_traces.specs.Trace.{Trace, end, note, Deep, Tick, then, answers}
+use Rattle.pi_traces.specs.Trace.{Trace, End, end, note, Deep, Tick, done, then}
 use Rattle.pi_traces.proofs.AnswerLemmas.{EachAnswer, each-map, each-then, each-caught}
+use Rattle.pi_settling.specs.CalmLaws.{FollowedStay}
+use Rattle.pi_settling.specs.DomainValues.{domain_functions}
+use Rattle.pi_settling.specs.Goals.{constraint_effect}
+use Rattle.pi_settling.proofs.CalmGoals.{within_keeps_followed, notin_keeps_followed}
+use Rattle.pi_settling.proofs.CalmPosted.{posted_keeps_followed}
 use Rattle.pi_meaning.specs.Shared.Settle.{settled}
 use Rattle.pi_meaning.specs.Shared.View.{View}
 use Rattle.pi_meaning.specs.Shared.Level.{Level, lowest, over, calls_at, or_called, or_applied}
@@ -24,12 +30,17 @@ use Rattle.pi_meaning.specs.Shared.Names.{is_later_predicate, is_later_function,
 use Rattle.pi_meaning.specs.Shared.Given.{Later, Setting}
 use Rattle.pi_meaning.specs.Shared.Handling.{handled_in, handling}
 use Rattle.pi_meaning.specs.Shared.Calls.{unknown_name, given_later, predicate_given, predicate_called, function_later, function_given, function_called, Called, called_by, with_planner, is_known, known_called, call_goal, catch_called, again_called, term_called, called_at_level, first_called}
-use Rattle.pi_meaning.specs.CoreMeaning.Instances.{core_setting, no_later, whole}
+use Rattle.pi_meaning.specs.CoreMeaning.Instances.{core_setting, built_later, whole}
+use Rattle.pi_meaning.proofs.Shared.ConstraintEffects.{LeavesSo, goals-leave}
 use Rattle.pi_rewrite_laws.specs.Roots.{RootsStay, RootsStayIn, LevelKeepsRoots, LaterKeepsRoots}
 use Rattle.pi_rewrite_laws.proofs.ElementLemmas.{roots-stay-itself}
 use Rattle.pi_rewrite_laws.proofs.StayLemmas.{roots-stay-then, new-variables-stay}
 use Rattle.pi_rewrite_laws.proofs.SettlingStays.{settling-stays}
-use Rattle.pi_rewrite_laws.proofs.RootGoals.{UnifyingKeepsRoots, each-of-all, calls-keep-roots, NamesKeepRoots}
+use Rattle.pi_rewrite_laws.proofs.RootGoals.{UnifyingKeepsRoots, each-of-all, all-of-each, calls-keep-roots, NamesKeepRoots}
+
+each-end : {A : Type 0} (P : A → Type 0) (e : End) → EachAnswer P (end e)
+unfolding EachAnswer
+each-end P e = tt
 
 -- ---- built-ins
 
@@ -160,10 +171,36 @@ first-keeps u set later l h no_trees s = tt
 first-keeps u set later (lowest c) h (tree t ts) s = tt
 first-keeps u set later (over c l) h (tree t ts) s = called-keeps u set later l h.1 t (each_tree ts) s
 
--- where no later stage is there, nothing has an answer
-pub no-later-keeps : LaterKeepsRoots no_later
-unfolding answers
-no-later-keeps = record { predicates = λ v l h name ts s. All-nil (RootsStay s); functions = λ name ts s. All-nil (RootsStayIn s) }
+-- ---- what is built of later stages
+
+roots-by : (s r : State) → FollowedStay s r → RootsStay s r
+roots-by s r h = record { compounds = λ t f ts at. h t (comp f ts) (λ n e. cc) at; atoms = λ t name at. h t (atom name) (λ n e. cc) at }
+
+goal-keeps : (v : View) (s : State) (e : Effect) → LeavesSo (FollowedStay s) e → EachAnswer (RootsStay s) (settled_effect v s e)
+unfolding EachAnswer
+goal-keeps v s (Succeeds r) h = settling-stays s s r (roots-by s r h)
+goal-keeps v s Fails h = tt
+goal-keeps v s (Writes text r) h = absurd h
+goal-keeps v s (Raises ball) h = tt
+
+-- a function of a domain leaves the state as it is
+value-keeps : (s : State) (o : Option (Answer Tree)) → EachAnswer (RootsStayIn s) (unwrap_or (option_map function_trace (option_map (answer_in s) o)) done)
+unfolding EachAnswer
+value-keeps s None = tt
+value-keeps s (Some (Ok t)) = (roots-stay-itself s, tt)
+value-keeps s (Some (Err ball)) = tt
+
+pub built-later-keeps : LaterKeepsRoots built_later
+built-later-keeps = record {
+  predicates = λ v l h name ts s. all-of-each (RootsStay s) (built_later.predicate v l name ts s) (go v name ts s (constraint_effect name ts s) refl);
+  functions = λ name ts s. all-of-each (RootsStayIn s) (built_later.function name ts s) (value-keeps s (done_by domain_functions name ts s));
+}
+  where
+    go : (v : View) (name : List ℕ) (ts : Trees) (s : State) (o : Option Effect) → constraint_effect name ts s ≡ o →
+        EachAnswer (RootsStay s) (unwrap_or (option_map (settled_effect v s) o) (unknown_name name (tree_count ts)))
+    go v name ts s None is = each-end (RootsStay s) _
+    go v name ts s (Some e) is =
+        goal-keeps v s e (goals-leave (FollowedStay s) s (λ t u r. within_keeps_followed s r t u) (λ t u r. notin_keeps_followed s r t u) (λ t r. posted_keeps_followed s r t) name ts e is)
 
 -- All names of the language keep roots.
 pub whole-keeps-roots : UnifyingKeepsRoots → (v : View) (later : Later) → LaterKeepsRoots later → (preds : List PredTree) → NamesKeepRoots (whole v later preds)

@@ -32,7 +32,7 @@ use Rattle.pi_effects.specs.Making.{making_functions}
 use Rattle.pi_effects.specs.BuiltIns.{built_in_predicate, built_in_function, tests, other_predicates, reading_functions, is_predicate}
 use Rattle.pi_meaning.specs.Shared.Raise.{raised_with}
 use Rattle.pi_meaning.specs.Shared.View.{query_view}
-use Rattle.pi_meaning.specs.CoreMeaning.Instances.{no_later, whole}
+use Rattle.pi_meaning.specs.CoreMeaning.Instances.{built_later, whole}
 use Rattle.pi_meaning.specs.Shared.Builtin.{effect, function_effect}
 use Rattle.pi_meaning.specs.Shared.Names.{later_predicates, is_later_predicate, is_later_function}
 use Rattle.pi_meaning.specs.Shared.Calls.{predicate_given, predicate_called, function_given, called_at_level, first_called}
@@ -68,7 +68,7 @@ abbrev query : GoalTree → ℕ → QueryTree
 query g slots = record { goal = g; helpers = []; names = []; slots = slots }
 
 abbrev trace_of : List PredTree → GoalTree → ℕ → ℕ → Trace Solution
-trace_of program g slots depth = query_trace (whole (query_view []) no_later program) program (query g slots) depth
+trace_of program g slots depth = query_trace (whole (query_view []) built_later program) program (query g slots) depth
 
 -- the state of these variables
 abbrev a_state : List Variable → State

@@ -1,4 +1,4 @@
--- Programs whose calls are defined: each call of a goal is of a predicate of the program or of one that is given, or of a function of the program or of the tables; and what is found by a
+-- Programs whose calls are defined: each call of a goal is of a predicate of the program or of one that is given, or of a function of the program or of one that is given; and what is found by a
 -- name is one of the program.
 use Rattle.std.proofs.Common.{◌≡◌, ◌⊎◌, ◌++◌, ℕ, suc, Bool, true, false, cond, ◌==◌, ◌&&◌, List, [], ◌∷◌, length, refl, subst, arith}
 use Rattle.std.specs.Prelude.{Option, Some, None, Contains, IsSome, IsTrue, ⊤}
@@ -9,7 +9,6 @@ use Rattle.pi_terms.specs.Order.{name_order}
 use Rattle.pi_constraints.proofs.MatchLemmas.{same_name}
 use Rattle.pi_core.specs.GoalTree.{GoalTree, truth, fail, tick, call, apply, seq, alternatives, if_else, not, once, collect, count, catch, GoalTrees, no_goals, goal, subgoals, subgoals_all}
 use Rattle.pi_core.specs.CoreTree.{ClauseTree, PredTree, is_pred, find_pred}
-use Rattle.pi_effects.specs.BuiltIns.{is_function}
 use Rattle.pi_meaning.specs.CoreMeaning.Defined.{CallsAmong, ClauseCallsAmong, ProgramCallsAmong}
 use Rattle.pi_meaning.proofs.CoreMeaning.MeaningLemmas.{Callable, CallsIn, CallsInAll}
 use Rattle.pi_meaning.proofs.CoreMeaning.RuleLemmas.{ClausesCall, FoundCall, ProgramCalls}
@@ -17,10 +16,10 @@ use Rattle.pi_meaning.proofs.CoreMeaning.RuleLemmas.{ClausesCall, FoundCall, Pro
 abbrev Given : Type 0
 Given = List ℕ → ℕ → Bool
 
--- what may be called: predicates of the program and those that are given, functions of the program and of the tables
-abbrev pub defined_by : (List ℕ → ℕ → Bool) → List PredTree → Callable
-defined_by given preds true name k = IsSome (find_pred true name k preds) ⊎ IsTrue (is_function name k)
-defined_by given preds false name k = IsSome (find_pred false name k preds) ⊎ IsTrue (given name k)
+-- what may be called: predicates and functions of the program, and those that are given
+abbrev pub defined_by : (List ℕ → ℕ → Bool) → (List ℕ → ℕ → Bool) → List PredTree → Callable
+defined_by given values preds true name k = IsSome (find_pred true name k preds) ⊎ IsTrue (values name k)
+defined_by given values preds false name k = IsSome (find_pred false name k preds) ⊎ IsTrue (given name k)
 
 -- ---- each call in a goal, from those that are in it
 
@@ -88,31 +87,31 @@ mutual
   all-calls-in K (goal g gs) f =
       (calls-in K g (left-here K (subgoals g) (subgoals_all gs) f), all-calls-in K gs (right-here K (subgoals g) (subgoals_all gs) f))
 
-call-here : (given : Given) (preds : List PredTree) (g h : GoalTree) → CallsAmong given preds g → Contains (subgoals g) h → CallHere (defined_by given preds) h
-call-here given preds g truth are at = tt
-call-here given preds g fail are at = tt
-call-here given preds g tick are at = tt
-call-here given preds g (call name args) are at = are.calls name args at
-call-here given preds g (apply name args slot) are at = are.functions name args slot at
-call-here given preds g (seq gs) are at = tt
-call-here given preds g (alternatives gs) are at = tt
-call-here given preds g (if_else test yes_goal other) are at = tt
-call-here given preds g (not h) are at = tt
-call-here given preds g (once h) are at = tt
-call-here given preds g (collect h value into) are at = tt
-call-here given preds g (count h into) are at = tt
-call-here given preds g (catch h ball handler) are at = tt
+call-here : (given values : Given) (preds : List PredTree) (g h : GoalTree) → CallsAmong given values preds g → Contains (subgoals g) h → CallHere (defined_by given values preds) h
+call-here given values preds g truth are at = tt
+call-here given values preds g fail are at = tt
+call-here given values preds g tick are at = tt
+call-here given values preds g (call name args) are at = are.calls name args at
+call-here given values preds g (apply name args slot) are at = are.functions name args slot at
+call-here given values preds g (seq gs) are at = tt
+call-here given values preds g (alternatives gs) are at = tt
+call-here given values preds g (if_else test yes_goal other) are at = tt
+call-here given values preds g (not h) are at = tt
+call-here given values preds g (once h) are at = tt
+call-here given values preds g (collect h value into) are at = tt
+call-here given values preds g (count h into) are at = tt
+call-here given values preds g (catch h ball handler) are at = tt
 
-pub goal-calls : (given : Given) (preds : List PredTree) (g : GoalTree) → CallsAmong given preds g → CallsIn (defined_by given preds) g
-goal-calls given preds g are = calls-in (defined_by given preds) g (λ h at. call-here given preds g h are at)
+pub goal-calls : (given values : Given) (preds : List PredTree) (g : GoalTree) → CallsAmong given values preds g → CallsIn (defined_by given values preds) g
+goal-calls given values preds g are = calls-in (defined_by given values preds) g (λ h at. call-here given values preds g h are at)
 
 -- ---- the clauses of a program
 
-clauses-call : (given : Given) (preds : List PredTree) (cs : List ClauseTree) → ((c : ClauseTree) → Contains cs c → ClauseCallsAmong given preds c) → ClausesCall (defined_by given preds) cs
-clauses-call given preds [] are = tt
-clauses-call given preds (c ∷ cs) are =
-    let this : ClauseCallsAmong given preds c = are c (has-first c cs) in
-    (record { guard = goal-calls given preds c.guard this.guard; body = goal-calls given preds c.body this.body }, clauses-call given preds cs (λ x at. are x (has-later c x cs at)))
+clauses-call : (given values : Given) (preds : List PredTree) (cs : List ClauseTree) → ((c : ClauseTree) → Contains cs c → ClauseCallsAmong given values preds c) → ClausesCall (defined_by given values preds) cs
+clauses-call given values preds [] are = tt
+clauses-call given values preds (c ∷ cs) are =
+    let this : ClauseCallsAmong given values preds c = are c (has-first c cs) in
+    (record { guard = goal-calls given values preds c.guard this.guard; body = goal-calls given values preds c.body this.body }, clauses-call given values preds cs (λ x at. are x (has-later c x cs at)))
 
 -- what is found is one of the program, with the name and the number of arguments that were asked for
 pub record IsFound (preds : List PredTree) (function : Bool) (name : List ℕ) (k : ℕ) (pred : PredTree) : Type 0 where
@@ -161,10 +160,10 @@ unfolding find_pred
 found-pred [] function name k pred h = absurd cc
 found-pred (p ∷ preds) function name k pred h = found-here p preds function name k pred (is_pred function name k p) refl (found-pred preds function name k pred) h
 
-found-calls : (given : Given) (preds : List PredTree) → ProgramCallsAmong given preds → (function : Bool) (name : List ℕ) (k : ℕ) (o : Option PredTree) → find_pred function name k preds ≡ o →
-    FoundCall (defined_by given preds) o
-found-calls given preds are function name k None h = tt
-found-calls given preds are function name k (Some pred) h = clauses-call given preds pred.clauses (are pred (found-pred preds function name k pred h).among)
+found-calls : (given values : Given) (preds : List PredTree) → ProgramCallsAmong given values preds → (function : Bool) (name : List ℕ) (k : ℕ) (o : Option PredTree) → find_pred function name k preds ≡ o →
+    FoundCall (defined_by given values preds) o
+found-calls given values preds are function name k None h = tt
+found-calls given values preds are function name k (Some pred) h = clauses-call given values preds pred.clauses (are pred (found-pred preds function name k pred h).among)
 
-pub program-calls : (given : Given) (preds : List PredTree) → ProgramCallsAmong given preds → ProgramCalls (defined_by given preds) preds
-program-calls given preds are function name k = found-calls given preds are function name k (find_pred function name k preds) refl
+pub program-calls : (given values : Given) (preds : List PredTree) → ProgramCallsAmong given values preds → ProgramCalls (defined_by given values preds) preds
+program-calls given values preds are function name k = found-calls given values preds are function name k (find_pred function name k preds) refl

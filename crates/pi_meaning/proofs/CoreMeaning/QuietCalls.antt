@@ -1,6 +1,6 @@
--- What `call` calls lasts as long as its level counts, and so all names of the language do, where no later stage is there.
+-- What `call` calls lasts as long as its level counts, and so all names of the language do, with what is built of later stages.
 use Rattle.std.proofs.Common.{◌≡◌, ℕ, suc, ◌-◌, ◌≤◌, Bool, true, false, cond, ◌||◌, List, [], length, refl, sym, ◌∙◌, ap, subst, arith}
-use Rattle.std.specs.Prelude.{Option, Some, None, option_map, is_some, codes}
+use Rattle.std.specs.Prelude.{Option, Some, None, option_map, unwrap_or, is_some, codes}
 use Rattle.std.specs.Option.{option_or}
 use Rattle.pi_terms.specs.Tree.{Tree, atom, Trees, no_trees, tree, tree_count}
 use Rattle.pi_terms.specs.Copy.{copy, new_variables}
@@ -11,6 +11,8 @@ use Rattle.pi_core.specs.CoreTree.{PredTree, find_pred}
 use Rattle.pi_effects.specs.Items.{each_tree}
 use Rattle.pi_effects.specs.BuiltIns.{built_in_predicate, built_in_function, is_predicate}
 use Rattle.pi_effects.specs.Exception.{type_error}
+use Rattle.pi_settling.specs.Goals.{constraint_effect}
+use Rattle.pi_settling.specs.DomainValues.{domain_function}
 use Rattle.pi_traces.specs.Trace.{Trace, end, note, ans, Tick, Load, Out, done, then}
 use Rattle.pi_meaning.specs.Shared.View.{View}
 use Rattle.pi_meaning.specs.Shared.Within.{Within, a_query, a_body, resource_left}
@@ -21,7 +23,7 @@ use Rattle.pi_meaning.specs.Shared.Builtin.{settled_effect, function_trace}
 use Rattle.pi_meaning.specs.Shared.Handling.{handled_in, handling}
 use Rattle.pi_meaning.specs.Shared.Given.{Setting}
 use Rattle.pi_meaning.specs.Shared.Calls.{built_in, given_later, predicate_given, predicate_called, function_later, function_given, Called, called_by, unknown_name, with_planner, is_known, known_called, call_goal, catch_called, again_called, term_called, called_at_level, first_called}
-use Rattle.pi_meaning.specs.CoreMeaning.Instances.{is_called_by_name, core_setting, no_later, whole}
+use Rattle.pi_meaning.specs.CoreMeaning.Instances.{is_called_by_name, core_setting, built_later, whole}
 use Rattle.pi_meaning.specs.CoreMeaning.Quiet.{TicksBetween}
 use Rattle.pi_traces.proofs.LastLemmas.{Lasts, Any, any-falls, less-left, done-lasts, raise-lasts, one-lasts, then-lasts, caught-lasts}
 use Rattle.pi_meaning.proofs.Shared.KnownLemmas.{given-known, planner-later}
@@ -50,6 +52,10 @@ or-lasts : {A : Type 0} (d : ℕ) (o p : Option (Trace A)) → OptionLasts d o �
 or-lasts d None p a b = b
 or-lasts d (Some t) p a b = a
 
+or-else-lasts : {A : Type 0} (d : ℕ) (o : Option (Trace A)) (t : Trace A) → OptionLasts d o → Lasts Any d t → Lasts Any d (unwrap_or o t)
+or-else-lasts d None t a b = b
+or-else-lasts d (Some u) t a b = a
+
 some-lasts : {A : Type 0} (d : ℕ) (c : Bool) (t : Trace A) (o : Option (Trace A)) → Lasts Any d t → OptionLasts d o → OptionLasts d (cond c (Some t) o)
 some-lasts d true t o a b = a
 some-lasts d false t o a b = b
@@ -57,13 +63,18 @@ some-lasts d false t o a b = b
 -- ---- what a name does by itself
 
 abbrev alone : View → List PredTree → Setting
-alone v preds = core_setting v no_later preds
+alone v preds = core_setting v built_later preds
+
+pub built-predicate-lasts : (d : ℕ) (v : View) (name : List ℕ) (ts : Trees) (s : State) → Lasts Any d (unwrap_or (option_map (settled_effect v s) (constraint_effect name ts s)) (unknown_name name (tree_count ts)))
+built-predicate-lasts d v name ts s =
+    or-else-lasts d (option_map (settled_effect v s) (constraint_effect name ts s)) (unknown_name name (tree_count ts)) (option-lasts d (settled_effect v s) (settled-effect-lasts d v s) (constraint_effect name ts s))
+    (unknown-lasts d name (tree_count ts))
 
 given-lasts : (v : View) (preds : List PredTree) (d : ℕ) (l : Level) (name : List ℕ) (ts : Trees) (s : State) → OptionLasts d (predicate_given (alone v preds) l name ts s)
 unfolding predicate_given
 given-lasts v preds d l name ts s =
     or-lasts d (built_in (alone v preds) name ts s) (given_later (alone v preds) l name ts s) (option-lasts d (settled_effect v s) (settled-effect-lasts d v s) (built_in_predicate name ts s))
-    (some-lasts d (is_later_predicate name (tree_count ts)) (unknown_name name (tree_count ts)) None (unknown-lasts d name (tree_count ts)) tt)
+    (some-lasts d (is_later_predicate name (tree_count ts)) (built_later.predicate v l name ts s) None (built-predicate-lasts d v name ts s) tt)
 
 resource-lasts : (d : ℕ) (within : Within) (s : State) → Lasts Any d (resource_left within s)
 resource-lasts d a_query s = raise-lasts Any d (atom (codes "no_resource"))
@@ -74,7 +85,8 @@ unfolding function_given
 function-given-lasts v preds d name ts s =
     or-lasts d (option_map function_trace (built_in_function name ts s)) (function_later (alone v preds) name ts s) (option-lasts d function_trace (gave-lasts d) (built_in_function name ts s))
     (some-lasts d (is_resource name (tree_count ts)) (resource_left v.within s) _ (resource-lasts d v.within s)
-    (some-lasts d (is_later_function name (tree_count ts)) done None (done-lasts Any d) tt))
+    (some-lasts d (is_later_function name (tree_count ts)) (built_later.function name ts s) None
+    (or-else-lasts d (option_map function_trace (domain_function name ts s)) done (option-lasts d function_trace (gave-lasts d) (domain_function name ts s)) (done-lasts Any d)) tt))
 
 -- ---- calls by name
 
@@ -206,7 +218,7 @@ first-lasts v preds r f d (over c l) h last (tree t ts) s = at-level-lasts v pre
 
 -- ---- all names of the language
 
-pub whole-lasts : (v : View) (preds : List PredTree) (r : TicksBetween preds) → BuiltinsLast preds r (whole v no_later preds)
+pub whole-lasts : (v : View) (preds : List PredTree) (r : TicksBetween preds) → BuiltinsLast preds r (whole v built_later preds)
 whole-lasts v preds r = record {
   predicates = λ f d l h last name ts s.
       some-lasts d (is_call name (tree_count ts)) (first_called (alone v preds) l ts s) (predicate_given (alone v preds) l name ts s) (first-lasts v preds r f d l h last ts s) (given-lasts v preds d l name ts s);

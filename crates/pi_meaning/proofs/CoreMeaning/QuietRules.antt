@@ -11,7 +11,7 @@ use Rattle.pi_traces.specs.Trace.{Trace, one, done, then}
 use Rattle.pi_traces.specs.Depth.{Cut, cut, CutWithoutDeep}
 use Rattle.pi_meaning.specs.Shared.View.{View}
 use Rattle.pi_meaning.specs.CoreMeaning.Builtins.{Builtins}
-use Rattle.pi_meaning.specs.CoreMeaning.Instances.{is_called_by_name, no_later, whole}
+use Rattle.pi_meaning.specs.CoreMeaning.Instances.{is_called_by_name, built_later, whole}
 use Rattle.pi_meaning.specs.Shared.Settle.{settled_from}
 use Rattle.pi_meaning.specs.Shared.Drain.{drained}
 use Rattle.pi_constraints.specs.HeadMatch.{matched_all_in}
@@ -329,14 +329,14 @@ query-lasts program q r built lasting n =
 
 -- so a depth of twice n + 1 reaches to Tick number n + 1
 pub depth-reaches : (v : View) (program : List PredTree) (q : QueryTree) → TicksBetween (program ++ q.helpers) → (n : ℕ) →
-    (d : ℕ) × CutWithoutDeep n (query_trace (whole v no_later (program ++ q.helpers)) program q d)
+    (d : ℕ) × CutWithoutDeep n (query_trace (whole v built_later (program ++ q.helpers)) program q d)
 depth-reaches v program q r n =
-    let built : Builtins = whole v no_later (program ++ q.helpers) in
+    let built : Builtins = whole v built_later (program ++ q.helpers) in
     (twice (suc n), cut-lasts Any n (query_trace built program q (twice (suc n))) (query-lasts program q r built (whole-lasts v (program ++ q.helpers) r) (suc n)))
 
 pub query-runs : (v : View) (program : List PredTree) (q : QueryTree) → TicksBetween (program ++ q.helpers) → (n : ℕ) →
-    (c : Cut Solution) × IsRunUnder (whole v no_later (program ++ q.helpers)) program q n c
+    (c : Cut Solution) × IsRunUnder (whole v built_later (program ++ q.helpers)) program q n c
 query-runs v program q r n =
-    let built : Builtins = whole v no_later (program ++ q.helpers) in
+    let built : Builtins = whole v built_later (program ++ q.helpers) in
     let deep : (d : ℕ) × CutWithoutDeep n (query_trace built program q d) = depth-reaches v program q r n in
     (cut n (query_trace built program q deep.0), record { depth = deep.0; reaches = deep.1; is_cut = refl })

@@ -1,35 +1,24 @@
--- What a call of a predicate, of a function and of what is built in comes to.
-use Rattle.std.proofs.Common.{◌≡◌, ℕ, ◌||◌, Bool, true, false, List, [], Option, Some, None, refl, sym, ◌∙◌, ap}
+-- What a call of a predicate, of a function and of what is built comes to.
+use Rattle.std.proofs.Common.{◌≡◌, ℕ, ◌||◌, Bool, true, false, List, [], Some, refl, sym, ◌∙◌, ap}
 use Rattle.std.specs.Prelude.{is_some}
 use Rattle.pi_terms.specs.Tree.{Tree, Trees, tree_count, trees_of}
 use Rattle.pi_terms.specs.Places.{Places}
 use Rattle.pi_constraints.specs.State.{State}
 use Rattle.pi_meaning.specs.Shared.View.{View}
 use Rattle.pi_effects.specs.Effect.{Effect, FunctionEffect}
-use Rattle.pi_effects.specs.BuiltIns.{built_in_predicate, built_in_function, is_predicate, is_function}
-use Rattle.pi_effects.proofs.BuiltInLemmas.{predicates-listed, functions-listed}
+use Rattle.pi_effects.specs.BuiltIns.{is_predicate, is_function}
 use Rattle.pi_core.specs.CoreTree.{PredTree, find_pred}
 use Rattle.pi_core.specs.GoalTree.{GoalTrees, call, apply}
 use Rattle.pi_constraints.specs.Evaluation.{EvaluatedAll, evaluated_all}
+use Rattle.pi_meaning.specs.Shared.Effects.{predicate_effect, value_effect}
 use Rattle.pi_meaning.specs.Shared.Names.{is_later_predicate, is_later_function, is_resource, is_call, is_given}
-use Rattle.pi_meaning.proofs.Shared.NamesApart.{predicate-no_call}
+use Rattle.pi_meaning.proofs.Shared.EffectNames.{effects-listed, no-effect, no-value, not-given-effect, not-given-value, effect-no_call}
 use Rattle.pi_meaning.specs.Machine.Configuration.{Frame, Entry, config, behind, returning}
 use Rattle.pi_meaning.specs.Machine.Step.{silently, deeper, first_now, done_now, given_now, call_step, predicate_step, function_step, later_step, effect_step, name_step, later_value, other_value, value_step, try_clauses, goal_step, back_to, with_rest, name_call}
 
-none-listed : {A : Type 0} (o : Option A) (listed : Bool) → is_some o ≡ listed → listed ≡ false → o ≡ None
-none-listed None listed is none = refl
-none-listed (Some x) listed is none = absurd cc
-
--- a predicate of the program, whose name isn't built in
-pub no-predicate : (name : List ℕ) (ts : Trees) (s : State) → is_predicate name (tree_count ts) ≡ false → built_in_predicate name ts s ≡ None
-no-predicate name ts s none = none-listed (built_in_predicate name ts s) (is_predicate name (tree_count ts)) (predicates-listed name ts s) none
-
-pub no-function : (name : List ℕ) (ts : Trees) (s : State) → is_function name (tree_count ts) ≡ false → built_in_function name ts s ≡ None
-no-function name ts s none = none-listed (built_in_function name ts s) (is_function name (tree_count ts)) (functions-listed name ts s) none
-
--- what is built in isn't `call`
-pub no-call : (name : List ℕ) (ts : Trees) (s : State) (d : Effect) → built_in_predicate name ts s ≡ Some d → is_call name (tree_count ts) ≡ false
-no-call name ts s d is = predicate-no_call name (tree_count ts) (sym (predicates-listed name ts s) ∙ ap is_some is)
+-- what is built isn't `call`
+pub no-call : (name : List ℕ) (ts : Trees) (s : State) (d : Effect) → predicate_effect name ts s ≡ Some d → is_call name (tree_count ts) ≡ false
+no-call name ts s d is = effect-no_call name (tree_count ts) (sym (effects-listed name ts s) ∙ ap is_some is)
 
 neither : (a b : Bool) → (a || b) ≡ false → (a ≡ false) × (b ≡ false)
 neither true b h = absurd cc
@@ -46,7 +35,7 @@ call-comes-to v preds name args pred gs e s k es none found =
     let no_call : (is_call name m ≡ false) × ((is_predicate name m || is_later_predicate name m) ≡ false) = neither (is_call name m) (is_predicate name m || is_later_predicate name m) none in
     let others : (is_predicate name m ≡ false) × (is_later_predicate name m ≡ false) = neither (is_predicate name m) (is_later_predicate name m) no_call.1 in
     ap (λ b. name_step b v preds (name_call name all) (with_rest gs k es)) no_call.0
-    ∙ (ap (λ t. effect_step v t preds (name_call name all) (with_rest gs k es)) (no-predicate name all.trees all.state others.0)
+    ∙ (ap (λ t. effect_step v t preds (name_call name all) (with_rest gs k es)) (no-effect name all.trees all.state (not-given-effect name m no_call.1))
     ∙ (ap (λ b. later_step b preds (name_call name all) (behind gs k) es) others.1 ∙ ap (λ p. predicate_step p all (behind gs k) es) found))
 
 -- a function of the program
@@ -60,14 +49,14 @@ apply-comes-to v preds name args into pred gs e s k es none found =
     let m : ℕ = tree_count all.trees in
     let no_effect : (is_function name m ≡ false) × ((is_resource name m || is_later_function name m) ≡ false) = neither (is_function name m) (is_resource name m || is_later_function name m) none in
     let others : (is_resource name m ≡ false) × (is_later_function name m ≡ false) = neither (is_resource name m) (is_later_function name m) no_effect.1 in
-    ap (λ t. value_step v t preds (name_call name all) into (with_rest gs k es)) (no-function name all.trees all.state no_effect.0)
+    ap (λ t. value_step v t preds (name_call name all) into (with_rest gs k es)) (no-value name all.trees all.state (not-given-value name m none))
     ∙ (ap (λ b. other_value b v preds (name_call name all) into (with_rest gs k es)) others.0
     ∙ (ap (λ b. later_value b preds (name_call name all) into (behind gs k) es) others.1 ∙ ap (λ p. function_step p all into (behind gs k) es) found))
 
--- what is built in
+-- what is built
 pub effect-comes-to : (v : View) (preds : List PredTree) (name : List ℕ) (args : List Tree) (d : Effect) (gs : GoalTrees) (e : Places) (s : State) (k : List Frame) (es : List Entry) →
     let all : EvaluatedAll = evaluated_all (trees_of args) e s in
-    built_in_predicate name all.trees all.state ≡ Some d → goal_step v preds (call name args) e s (with_rest gs k es) ≡ silently (config (done_now v all.state d gs all.slots k) es)
+    predicate_effect name all.trees all.state ≡ Some d → goal_step v preds (call name args) e s (with_rest gs k es) ≡ silently (config (done_now v all.state d gs all.slots k) es)
 unfolding goal_step
 effect-comes-to v preds name args d gs e s k es is =
     let all : EvaluatedAll = evaluated_all (trees_of args) e s in
@@ -75,7 +64,7 @@ effect-comes-to v preds name args d gs e s k es is =
 
 pub value-comes-to : (v : View) (preds : List PredTree) (name : List ℕ) (args : List Tree) (into : ℕ) (d : FunctionEffect) (gs : GoalTrees) (e : Places) (s : State) (k : List Frame) (es : List Entry) →
     let all : EvaluatedAll = evaluated_all (trees_of args) e s in
-    built_in_function name all.trees all.state ≡ Some d → goal_step v preds (apply name args into) e s (with_rest gs k es) ≡ silently (config (given_now d into gs all.slots k) es)
+    value_effect name all.trees all.state ≡ Some d → goal_step v preds (apply name args into) e s (with_rest gs k es) ≡ silently (config (given_now d into gs all.slots k) es)
 unfolding goal_step
 value-comes-to v preds name args into d gs e s k es is = ap (λ t. value_step v t preds (name_call name (evaluated_all (trees_of args) e s)) into (with_rest gs k es)) is
 

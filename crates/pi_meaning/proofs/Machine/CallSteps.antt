@@ -13,7 +13,7 @@ use Rattle.pi_traces.specs.Depth.{Below, same_note}
 use Rattle.pi_traces.specs.Related.{BelowBy, end_by}
 use Rattle.pi_meaning.specs.Shared.View.{View}
 use Rattle.pi_meaning.specs.CoreMeaning.Builtins.{Builtins, BuiltinsOnlyAdd, predicate_by}
-use Rattle.pi_meaning.specs.CoreMeaning.Instances.{core_setting, no_later, whole}
+use Rattle.pi_meaning.specs.CoreMeaning.Instances.{core_setting, built_later, whole}
 use Rattle.pi_constraints.specs.Evaluation.{Evaluated, evaluated, EvaluatedAll, evaluated_all}
 use Rattle.pi_meaning.specs.Shared.Raise.{raised_with}
 use Rattle.pi_meaning.specs.Shared.Level.{Level, Applied, Point, LevelBelow, PointBelow, same_but_level, calls_at, or_called, or_applied}
@@ -28,7 +28,7 @@ use Rattle.pi_traces.proofs.TraceLemmas.{then-assoc, alt-done}
 use Rattle.pi_meaning.proofs.Shared.LevelLemmas.{level-itself}
 use Rattle.pi_meaning.proofs.CoreMeaning.RuleLemmas.{level-below, quiet-deeper}
 use Rattle.pi_meaning.proofs.CoreMeaning.MeaningLemmas.{meaning-below, strict-below}
-use Rattle.pi_meaning.proofs.Shared.CallLemmas.{no-later-adds, whole-adds}
+use Rattle.pi_meaning.proofs.Shared.CallLemmas.{built-later-adds, whole-adds}
 use Rattle.pi_traces.proofs.RelatedLemmas.{Same, same, by-same, by-alt, by-then, by-chosen}
 use Rattle.pi_meaning.specs.Machine.Configuration.{Frame, give, Back, Called, Strict, value_level, Entry, strict, going, failed, config, behind, returning}
 use Rattle.pi_meaning.specs.Machine.Remaining.{point, valued, continued, run_from, body_of, rules_trace, facts_trace, level_trace, around, now_trace, remaining_at}
@@ -237,13 +237,13 @@ Told given l names es t = then (around given l es t []) (answered_with names)
 pub predicate-comes : (v : View) (preds : List PredTree) (names : List NameSlot) (name : List ℕ) (args : List Tree) (gs : GoalTrees) (e : Places) (s : State) (k : List Frame)
     (es : List Entry) (pred : PredTree) → IsBalanced 0 es →
     let all : EvaluatedAll = evaluated_all (trees_of args) e s in
-    ((l : Level) → (whole v no_later preds).predicate l name all.trees all.state ≡ None) → find_pred false name (tree_count all.trees) preds ≡ Some pred → IsOfRules pred →
+    ((l : Level) → (whole v built_later preds).predicate l name all.trees all.state ≡ None) → find_pred false name (tree_count all.trees) preds ≡ Some pred → IsOfRules pred →
     let b : Back = back_to [] all.state (returning all.slots (behind gs k)) in
     (quiet : Bool) → pred.quiet ≡ quiet → Comes v preds names (config (going (goal (call name args) gs) e s k) es) (call_step quiet (try_clauses pred.index pred.clauses all.trees b es))
 unfolding remaining_at now_trace then
 predicate-comes v preds names name args gs e s k es pred balanced none f h false counted = λ d.
-    let given : Builtins = whole v no_later preds in
-    let adds : BuiltinsOnlyAdd given = whole-adds v no_later preds no-later-adds in
+    let given : Builtins = whole v built_later preds in
+    let adds : BuiltinsOnlyAdd given = whole-adds v built_later preds built-later-adds in
     let all : EvaluatedAll = evaluated_all (trees_of args) e s in
     let b : Back = back_to [] all.state (returning all.slots (behind gs k)) in
     let l : Level = level_at given preds d in
@@ -256,8 +256,8 @@ predicate-comes v preds names name args gs e s k es pred balanced none f h false
     (predicate-ran given preds d name args gs e s k (note Tick bodies) (none m) (called-counted given preds d name all.trees all.state pred f counted))
     (predicate-under given adds l l m (level-itself l) (level-below given adds preds d) all.slots (behind gs k) all.trees all.state pred h.without_events pred.index))
 predicate-comes v preds names name args gs e s k es pred balanced none f h true quiet = λ d.
-    let given : Builtins = whole v no_later preds in
-    let adds : BuiltinsOnlyAdd given = whole-adds v no_later preds no-later-adds in
+    let given : Builtins = whole v built_later preds in
+    let adds : BuiltinsOnlyAdd given = whole-adds v built_later preds built-later-adds in
     let all : EvaluatedAll = evaluated_all (trees_of args) e s in
     let b : Back = back_to [] all.state (returning all.slots (behind gs k)) in
     let l : Level = level_at given preds d in
@@ -392,15 +392,15 @@ function-under given adds l n m low h pred ts s slots into k =
 pub function-comes : (v : View) (preds : List PredTree) (names : List NameSlot) (name : List ℕ) (args : List Tree) (into : ℕ) (gs : GoalTrees) (e : Places) (s : State)
     (k : List Frame) (es : List Entry) (pred : PredTree) → IsBalanced 0 es →
     let all : EvaluatedAll = evaluated_all (trees_of args) e s in
-    function_given (core_setting v no_later preds) name all.trees all.state ≡ None → find_pred true name (tree_count all.trees) preds ≡ Some pred →
+    function_given (core_setting v built_later preds) name all.trees all.state ≡ None → find_pred true name (tree_count all.trees) preds ≡ Some pred →
     let called : Called = record { function = true; args = all.trees } in
     let level : Entry = strict (value_level (comp pred.name all.trees) into) (back_to all.slots all.state (behind gs k)) in
     (quiet : Bool) → pred.quiet ≡ quiet →
     Comes v preds names (config (going (goal (apply name args into) gs) e s k) es) (call_step quiet (try_rules called pred.clauses (back_to [] all.state []) (level ∷ es)))
 unfolding remaining_at now_trace around then
 function-comes v preds names name args into gs e s k es pred balanced none f false counted = λ d.
-    let given : Builtins = whole v no_later preds in
-    let adds : BuiltinsOnlyAdd given = whole-adds v no_later preds no-later-adds in
+    let given : Builtins = whole v built_later preds in
+    let adds : BuiltinsOnlyAdd given = whole-adds v built_later preds built-later-adds in
     let all : EvaluatedAll = evaluated_all (trees_of args) e s in
     let called : Called = record { function = true; args = all.trees } in
     let b : Back = back_to all.slots all.state (behind gs k) in
@@ -415,8 +415,8 @@ function-comes v preds names name args into gs e s k es pred balanced none f fal
     (function-ran given preds d name args into gs e s k (note Tick run) none (applied-counted given preds d name all.trees all.state pred f counted))
     (function-under given adds l l m (level-itself l) (level-below given adds preds d) pred all.trees all.state all.slots into (behind gs k)))
 function-comes v preds names name args into gs e s k es pred balanced none f true quiet = λ d.
-    let given : Builtins = whole v no_later preds in
-    let adds : BuiltinsOnlyAdd given = whole-adds v no_later preds no-later-adds in
+    let given : Builtins = whole v built_later preds in
+    let adds : BuiltinsOnlyAdd given = whole-adds v built_later preds built-later-adds in
     let all : EvaluatedAll = evaluated_all (trees_of args) e s in
     let called : Called = record { function = true; args = all.trees } in
     let b : Back = back_to all.slots all.state (behind gs k) in

@@ -22,7 +22,7 @@ use Rattle.pi_meaning.specs.Machine.Laws.{GoesOnGood}
 use Rattle.pi_meaning.proofs.Machine.StackLemmas.{IsClosed, IsFound, newest-found}
 use Rattle.pi_meaning.proofs.Machine.EndSteps.{IsMatched, left-matched}
 use Rattle.pi_effects.specs.Effect.{Effect, FunctionEffect}
-use Rattle.pi_effects.specs.BuiltIns.{built_in_predicate, built_in_function}
+use Rattle.pi_meaning.specs.Shared.Effects.{predicate_effect, value_effect}
 use Rattle.pi_meaning.specs.Shared.Settle.{settlement}
 
 pub closed-rest : (n : ℕ) (above rest : List Entry) → IsClosed n above → IsBalanced n (above ++ rest) → IsBalanced 0 rest
@@ -133,7 +133,7 @@ effect-good v (Some d) preds name all gs k es h = record { balanced = h }
 name-good : (called : Bool) (v : View) (preds : List PredTree) (name : List ℕ) (all : EvaluatedAll) (gs : GoalTrees) (k : List Frame) (es : List Entry) → IsBalanced 0 es →
     GoesOnGood (name_step called v preds (name_call name all) (with_rest gs k es))
 name-good true v preds name all gs k es h = record { balanced = h }
-name-good false v preds name all gs k es h = effect-good v (built_in_predicate name all.trees all.state) preds name all gs k es h
+name-good false v preds name all gs k es h = effect-good v (predicate_effect name all.trees all.state) preds name all gs k es h
 
 function-good : (o : Option PredTree) (all : EvaluatedAll) (into : ℕ) (k : List Frame) (es : List Entry) → IsBalanced 0 es → GoesOnGood (function_step o all into k es)
 unfolding IsBalanced
@@ -164,7 +164,7 @@ goal-good v preds tick gs e s k es h = record { balanced = h }
 goal-good v preds (call name args) gs e s k es h =
     let all : EvaluatedAll = evaluated_all (trees_of args) e s in name-good (is_call name (tree_count all.trees)) v preds name all gs k es h
 goal-good v preds (apply name args into) gs e s k es h =
-    let all : EvaluatedAll = evaluated_all (trees_of args) e s in value-good v (built_in_function name all.trees all.state) preds name all into gs k es h
+    let all : EvaluatedAll = evaluated_all (trees_of args) e s in value-good v (value_effect name all.trees all.state) preds name all into gs k es h
 goal-good v preds (seq hs) gs e s k es h = record { balanced = h }
 goal-good v preds (alternatives hs) gs e s k es h = record { balanced = branch-keeps hs (back_to e s (behind gs k)) es h }
 goal-good v preds (if_else test g other) gs e s k es h = record { balanced = h }

@@ -7,14 +7,14 @@ use Rattle.pi_traces.specs.Trace.{Trace, end, note, ans, End, Deep, Note, Tick, 
 use Rattle.pi_traces.specs.Depth.{Below, same_note, DepthOnlyAdds}
 use Rattle.pi_meaning.specs.Shared.View.{View}
 use Rattle.pi_meaning.specs.CoreMeaning.Builtins.{Builtins, BuiltinsOnlyAdd}
-use Rattle.pi_meaning.specs.CoreMeaning.Instances.{no_later, whole}
+use Rattle.pi_meaning.specs.CoreMeaning.Instances.{built_later, whole}
 use Rattle.pi_meaning.specs.CoreMeaning.Rules.{level_at}
 use Rattle.pi_meaning.specs.CoreMeaning.Run.{Solution, answered_with, query_trace}
 use Rattle.pi_core.specs.declared.core_program.NameSlot.{NameSlot}
 use Rattle.pi_traces.proofs.TraceLemmas.{emit-append}
 use Rattle.pi_traces.proofs.BelowLemmas.{below-refl, below-trans, below-whole, below-emit, below-events, below-later}
 use Rattle.pi_meaning.proofs.CoreMeaning.RuleLemmas.{level-below}
-use Rattle.pi_meaning.proofs.Shared.CallLemmas.{no-later-adds, whole-adds}
+use Rattle.pi_meaning.proofs.Shared.CallLemmas.{built-later-adds, whole-adds}
 use Rattle.pi_meaning.specs.Machine.Configuration.{Config}
 use Rattle.pi_meaning.specs.Machine.Remaining.{around, now_trace, remaining_at, remaining}
 use Rattle.pi_meaning.specs.Machine.Step.{silently, with_tick, quietly, answering, ending, step, start, writing, deeper}
@@ -31,18 +31,18 @@ use Rattle.pi_meaning.proofs.Machine.WeightSteps.{step-lighter}
 
 pub remaining-deeper : (v : View) (preds : List PredTree) (names : List NameSlot) (c : Config) → DepthOnlyAdds (λ d. remaining v preds names d c)
 remaining-deeper v preds names c d =
-    let given : Builtins = whole v no_later preds in
-    let adds : BuiltinsOnlyAdd given = whole-adds v no_later preds no-later-adds in
+    let given : Builtins = whole v built_later preds in
+    let adds : BuiltinsOnlyAdd given = whole-adds v built_later preds built-later-adds in
     remaining-below given adds (level_at given preds d) (level_at given preds (suc d)) (level-below given adds preds d) names c
 
 -- at each depth from one on
 later : (v : View) (preds : List PredTree) (names : List NameSlot) (c : Config) (d more : ℕ) → Below (remaining v preds names d c) (remaining v preds names (d + more) c)
 later v preds names c d more = below-later (λ d. remaining v preds names d c) (remaining-deeper v preds names c) d more (d + more) refl
 
-pub starts : (v : View) (program : List PredTree) (q : QueryTree) (d : ℕ) → remaining v (program ++ q.helpers) q.names d (start q) ≡ query_trace (whole v no_later (program ++ q.helpers)) program q d
+pub starts : (v : View) (program : List PredTree) (q : QueryTree) (d : ℕ) → remaining v (program ++ q.helpers) q.names d (start q) ≡ query_trace (whole v built_later (program ++ q.helpers)) program q d
 unfolding remaining_at around now_trace query_trace
 starts v program q d =
-    ap (λ t. then t (answered_with q.names)) (goal-strict (whole v no_later (program ++ q.helpers)) (level_at (whole v no_later (program ++ q.helpers)) (program ++ q.helpers) d) q.goal (replicate q.slots None) empty_state)
+    ap (λ t. then t (answered_with q.names)) (goal-strict (whole v built_later (program ++ q.helpers)) (level_at (whole v built_later (program ++ q.helpers)) (program ++ q.helpers) d) q.goal (replicate q.slots None) empty_state)
 
 pub start-good : (q : QueryTree) → IsGood (start q)
 unfolding IsBalanced

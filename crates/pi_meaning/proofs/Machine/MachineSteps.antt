@@ -12,7 +12,8 @@ use Rattle.pi_traces.specs.Trace.{Trace, done, one, then, first, note, Load, Out
 use Rattle.pi_traces.specs.Control.{negated, chosen}
 use Rattle.pi_meaning.specs.Shared.View.{View}
 use Rattle.pi_meaning.specs.CoreMeaning.Builtins.{Builtins}
-use Rattle.pi_meaning.specs.CoreMeaning.Instances.{core_setting, no_later, whole}
+use Rattle.pi_meaning.specs.CoreMeaning.Instances.{core_setting, built_later, whole}
+use Rattle.pi_meaning.specs.Shared.Effects.{predicate_effect, value_effect}
 use Rattle.pi_meaning.specs.Shared.Names.{is_later_predicate, is_later_function, is_resource, is_call}
 use Rattle.pi_meaning.specs.Shared.Calls.{unknown_name, function_given}
 use Rattle.pi_meaning.specs.Shared.Within.{Within, a_query, a_body, resource_left}
@@ -23,7 +24,7 @@ use Rattle.pi_meaning.specs.CoreMeaning.Meaning.{Action, draining, strictly, suc
 use Rattle.pi_meaning.specs.CoreMeaning.Rules.{call_run, application_run, calls_of, level_at}
 use Rattle.pi_meaning.specs.CoreMeaning.Run.{answered_with}
 use Rattle.pi_core.specs.declared.core_program.NameSlot.{NameSlot}
-use Rattle.pi_meaning.proofs.Shared.CallLemmas.{no-later-adds, whole-adds}
+use Rattle.pi_meaning.proofs.Shared.CallLemmas.{built-later-adds, whole-adds}
 use Rattle.pi_meaning.specs.Machine.Configuration.{Frame, Back, once_level, not_level, if_level, list_level, number_level, Entry, choice, strict, catch_level, left, Now, going, settling, failed, raising, Config, config, behind, telling}
 use Rattle.pi_settling.specs.Settle.{Settlement, answer_with}
 use Rattle.pi_settling.specs.Settled.{loaded}
@@ -44,11 +45,10 @@ use Rattle.pi_meaning.proofs.Machine.CallSteps.{tick-comes, predicate-comes, fun
 use Rattle.pi_meaning.proofs.Machine.NamesGiven.{does-effect, does-later, does-nothing, gives-value, gives-resource, gives-later, gives-nothing}
 use Rattle.pi_meaning.proofs.Machine.TermSteps.{call-comes}
 use Rattle.pi_effects.specs.Effect.{FunctionEffect, Effect}
-use Rattle.pi_effects.specs.BuiltIns.{built_in_predicate, built_in_function}
 
 -- what goals run with
 abbrev language : View → List PredTree → Builtins
-language v preds = whole v no_later preds
+language v preds = whole v built_later preds
 
 -- a step at which all stays the same
 silent : (v : View) (preds : List PredTree) (names : List NameSlot) (now : Now) (es : List Entry) (after : Config) →
@@ -101,7 +101,7 @@ given-step-comes v preds names name args gs e s k es t does after is =
 later-step-comes : (v : View) (preds : List PredTree) (names : List NameSlot) (name : List ℕ) (args : List Tree) (gs : GoalTrees) (e : Places) (s : State) (k : List Frame) (es : List Entry) →
     AreOfRules preds → IsBalanced 0 es →
     let all : EvaluatedAll = evaluated_all (trees_of args) e s in
-    is_call name (tree_count all.trees) ≡ false → built_in_predicate name all.trees all.state ≡ None → (later : Bool) → is_later_predicate name (tree_count all.trees) ≡ later →
+    is_call name (tree_count all.trees) ≡ false → predicate_effect name all.trees all.state ≡ None → (later : Bool) → is_later_predicate name (tree_count all.trees) ≡ later →
     Comes v preds names (config (going (goal (call name args) gs) e s k) es) (later_step later preds (name_call name all) (behind gs k) es)
 unfolding then now_trace
 later-step-comes v preds names name args gs e s k es sound b other none true is =
@@ -115,7 +115,7 @@ later-step-comes v preds names name args gs e s k es sound b other none false is
 effect-step-comes : (v : View) (preds : List PredTree) (names : List NameSlot) (name : List ℕ) (args : List Tree) (gs : GoalTrees) (e : Places) (s : State) (k : List Frame) (es : List Entry) →
     AreOfRules preds → IsBalanced 0 es →
     let all : EvaluatedAll = evaluated_all (trees_of args) e s in
-    is_call name (tree_count all.trees) ≡ false → (o : Option Effect) → built_in_predicate name all.trees all.state ≡ o →
+    is_call name (tree_count all.trees) ≡ false → (o : Option Effect) → predicate_effect name all.trees all.state ≡ o →
     Comes v preds names (config (going (goal (call name args) gs) e s k) es) (effect_step v o preds (name_call name all) (with_rest gs k es))
 effect-step-comes v preds names name args gs e s k es sound b other None f =
     let all : EvaluatedAll = evaluated_all (trees_of args) e s in
@@ -132,12 +132,12 @@ name-step-comes : (v : View) (preds : List PredTree) (names : List NameSlot) (na
 name-step-comes v preds names name args gs e s k es sound b true is = call-comes v preds names name args gs e s k es is
 name-step-comes v preds names name args gs e s k es sound b false is =
     let all : EvaluatedAll = evaluated_all (trees_of args) e s in
-    effect-step-comes v preds names name args gs e s k es sound b is (built_in_predicate name all.trees all.state) refl
+    effect-step-comes v preds names name args gs e s k es sound b is (predicate_effect name all.trees all.state) refl
 
 function-step-comes : (v : View) (preds : List PredTree) (names : List NameSlot) (name : List ℕ) (args : List Tree) (into : ℕ) (gs : GoalTrees) (e : Places) (s : State) (k : List Frame) (es : List Entry) →
     IsBalanced 0 es →
     let all : EvaluatedAll = evaluated_all (trees_of args) e s in
-    function_given (core_setting v no_later preds) name all.trees all.state ≡ None → (o : Option PredTree) → find_pred true name (tree_count all.trees) preds ≡ o →
+    function_given (core_setting v built_later preds) name all.trees all.state ≡ None → (o : Option PredTree) → find_pred true name (tree_count all.trees) preds ≡ o →
     Comes v preds names (config (going (goal (apply name args into) gs) e s k) es) (function_step o all into (behind gs k) es)
 unfolding meaning applying then CallsAre calls_of now_trace remaining_at
 function-step-comes v preds names name args into gs e s k es b none None f =
@@ -152,7 +152,7 @@ function-step-comes v preds names name args into gs e s k es b none (Some pred) 
 given-value-comes : (v : View) (preds : List PredTree) (names : List NameSlot) (name : List ℕ) (args : List Tree) (into : ℕ) (gs : GoalTrees) (e : Places) (s : State) (k : List Frame) (es : List Entry)
     (t : Trace Applied) →
     let all : EvaluatedAll = evaluated_all (trees_of args) e s in
-    function_given (core_setting v no_later preds) name all.trees all.state ≡ Some t → (after : Config) →
+    function_given (core_setting v built_later preds) name all.trees all.state ≡ Some t → (after : Config) →
     ((l : Level) → Is (language v preds) l es (then (then t (λ a. one (point l (slice_set all.slots into (Some a.value)) a.state))) (continued (language v preds) l (behind gs k))) after) →
     Comes v preds names (config (going (goal (apply name args into) gs) e s k) es) (silently after)
 unfolding meaning applying
@@ -164,7 +164,7 @@ given-value-comes v preds names name args into gs e s k es t does after is =
 later-value-comes : (v : View) (preds : List PredTree) (names : List NameSlot) (name : List ℕ) (args : List Tree) (into : ℕ) (gs : GoalTrees) (e : Places) (s : State) (k : List Frame) (es : List Entry) →
     IsBalanced 0 es →
     let all : EvaluatedAll = evaluated_all (trees_of args) e s in
-    built_in_function name all.trees all.state ≡ None → is_resource name (tree_count all.trees) ≡ false → (later : Bool) → is_later_function name (tree_count all.trees) ≡ later →
+    value_effect name all.trees all.state ≡ None → is_resource name (tree_count all.trees) ≡ false → (later : Bool) → is_later_function name (tree_count all.trees) ≡ later →
     Comes v preds names (config (going (goal (apply name args into) gs) e s k) es) (later_value later preds (name_call name all) into (behind gs k) es)
 unfolding then now_trace
 later-value-comes v preds names name args into gs e s k es b none other true is =
@@ -180,7 +180,7 @@ resource-trace (a_body n) s = refl
 
 effect-value-comes : (v : View) (preds : List PredTree) (names : List NameSlot) (name : List ℕ) (args : List Tree) (into : ℕ) (gs : GoalTrees) (e : Places) (s : State) (k : List Frame) (es : List Entry) →
     let all : EvaluatedAll = evaluated_all (trees_of args) e s in
-    (d : FunctionEffect) → function_given (core_setting v no_later preds) name all.trees all.state ≡ Some (function_trace d) →
+    (d : FunctionEffect) → function_given (core_setting v built_later preds) name all.trees all.state ≡ Some (function_trace d) →
     Comes v preds names (config (going (goal (apply name args into) gs) e s k) es) (silently (config (given_now d into gs all.slots k) es))
 effect-value-comes v preds names name args into gs e s k es d does =
     let all : EvaluatedAll = evaluated_all (trees_of args) e s in
@@ -190,7 +190,7 @@ effect-value-comes v preds names name args into gs e s k es d does =
 other-value-comes : (v : View) (preds : List PredTree) (names : List NameSlot) (name : List ℕ) (args : List Tree) (into : ℕ) (gs : GoalTrees) (e : Places) (s : State) (k : List Frame) (es : List Entry) →
     IsBalanced 0 es →
     let all : EvaluatedAll = evaluated_all (trees_of args) e s in
-    built_in_function name all.trees all.state ≡ None → (resource : Bool) → is_resource name (tree_count all.trees) ≡ resource →
+    value_effect name all.trees all.state ≡ None → (resource : Bool) → is_resource name (tree_count all.trees) ≡ resource →
     Comes v preds names (config (going (goal (apply name args into) gs) e s k) es) (other_value resource v preds (name_call name all) into (with_rest gs k es))
 other-value-comes v preds names name args into gs e s k es b none true is =
     let all : EvaluatedAll = evaluated_all (trees_of args) e s in
@@ -203,7 +203,7 @@ other-value-comes v preds names name args into gs e s k es b none false is =
 value-step-comes : (v : View) (preds : List PredTree) (names : List NameSlot) (name : List ℕ) (args : List Tree) (into : ℕ) (gs : GoalTrees) (e : Places) (s : State) (k : List Frame) (es : List Entry) →
     IsBalanced 0 es →
     let all : EvaluatedAll = evaluated_all (trees_of args) e s in
-    (o : Option FunctionEffect) → built_in_function name all.trees all.state ≡ o →
+    (o : Option FunctionEffect) → value_effect name all.trees all.state ≡ o →
     Comes v preds names (config (going (goal (apply name args into) gs) e s k) es) (value_step v o preds (name_call name all) into (with_rest gs k es))
 value-step-comes v preds names name args into gs e s k es b None f =
     let all : EvaluatedAll = evaluated_all (trees_of args) e s in
@@ -218,13 +218,13 @@ unfolding goal_step meaning then now_trace level_trace remaining_at catching cat
 goal-comes v preds names truth gs e s k es sound b =
     goal-silent v preds names truth succeeding refl gs e s k es (config (going gs e s k) es) (λ l h. ap (λ t. around (language v preds) l es t []) (truth-goes_on (language v preds) l gs e s k))
 goal-comes v preds names fail gs e s k es sound b = goal-silent v preds names fail failing refl gs e s k es (config failed es) (λ l h. refl)
-goal-comes v preds names tick gs e s k es sound b = λ d. tick-comes (language v preds) (whole-adds v no_later preds no-later-adds) preds names d gs e s k es b
+goal-comes v preds names tick gs e s k es sound b = λ d. tick-comes (language v preds) (whole-adds v built_later preds built-later-adds) preds names d gs e s k es b
 goal-comes v preds names (call name args) gs e s k es sound b =
     let all : EvaluatedAll = evaluated_all (trees_of args) e s in
     name-step-comes v preds names name args gs e s k es sound b (is_call name (tree_count all.trees)) refl
 goal-comes v preds names (apply name args into) gs e s k es sound b =
     let all : EvaluatedAll = evaluated_all (trees_of args) e s in
-    value-step-comes v preds names name args into gs e s k es b (built_in_function name all.trees all.state) refl
+    value-step-comes v preds names name args into gs e s k es b (value_effect name all.trees all.state) refl
 goal-comes v preds names (seq hs) gs e s k es sound b =
     goal-silent v preds names (seq hs) (meaning_of_all (language v preds) hs) refl gs e s k es (config (going hs e s (behind gs k)) es) (λ l h. refl)
 goal-comes v preds names (alternatives hs) gs e s k es sound b =

@@ -12,6 +12,8 @@ use Rattle.pi_constraints.specs.Evaluation.{Evaluated, EvaluatedAll, evaluated_a
 use Rattle.pi_core.specs.GoalTree.{GoalTree, tick, call, seq, catch, GoalTrees, no_goals, goal}
 use Rattle.pi_core.specs.CoreTree.{PredTree}
 use Rattle.pi_effects.specs.BuiltIns.{is_predicate}
+use Rattle.pi_settling.specs.Goals.{is_constraint_goal}
+use Rattle.pi_meaning.proofs.Shared.EffectNames.{goal-later}
 use Rattle.pi_effects.specs.Items.{each_tree}
 use Rattle.pi_traces.specs.Trace.{Trace, end, note, Raise, Deep, Tick, one, then}
 use Rattle.pi_traces.specs.Control.{caught}
@@ -29,8 +31,8 @@ use Rattle.pi_meaning.specs.Shared.Handling.{handled_in, handling}
 use Rattle.pi_meaning.specs.CoreMeaning.Meaning.{Action, draining, strictly, calling, catching, ticking, meaning, meaning_of_all}
 use Rattle.pi_meaning.specs.CoreMeaning.Rules.{level_at}
 use Rattle.pi_meaning.specs.Shared.Calls.{unknown_name, with_planner, predicate_called, is_known, known_called, call_goal, catch_called, again_called, name_called, called_below, first_called}
-use Rattle.pi_meaning.specs.CoreMeaning.Instances.{no_later, whole}
-use Rattle.pi_meaning.proofs.Shared.CallLemmas.{first-below, no-later-adds, whole-adds}
+use Rattle.pi_meaning.specs.CoreMeaning.Instances.{built_later, whole}
+use Rattle.pi_meaning.proofs.Shared.CallLemmas.{first-below, built-later-adds, whole-adds}
 use Rattle.pi_meaning.proofs.Shared.LevelLemmas.{quiet-keeps-depth}
 use Rattle.pi_meaning.proofs.CoreMeaning.RuleLemmas.{level-below}
 use Rattle.pi_meaning.specs.Machine.NamedGoals.{slots_from, call_of_slot, call_of_slots, catch_of_slots}
@@ -88,36 +90,36 @@ states-left l e t u b =
 -- ---- a goal by a name
 
 slot-ran : (v : View) (preds : List PredTree) (d : ℕ) (name : List ℕ) (args : List Tree) (ts : Trees) (e : Places) (s : State) →
-    let given : Builtins = whole v no_later preds in
+    let given : Builtins = whole v built_later preds in
     let l : Level = level_at given preds d in
     evaluated_all (trees_of args) e s ≡ record { trees = ts; slots = e; state = s } →
     meaning given (call name args) (point l e s) ≡ then (predicate_by given l name ts s) (λ r. one (point l e r))
 unfolding meaning calling
 slot-ran v preds d name args ts e s is =
-    let given : Builtins = whole v no_later preds in
+    let given : Builtins = whole v built_later preds in
     let l : Level = level_at given preds d in
     draining-goes_on given preds l (calls-are given preds d) (calling given name args) e s
     ∙ ap (λ (all : EvaluatedAll). then (predicate_by given l name all.trees all.state) (λ r. one (point l all.slots r))) is
 
 -- `call` of what slots hold
 call-ran : (v : View) (preds : List PredTree) (d : ℕ) (args : List Tree) (ts : Trees) (e : Places) (s : State) → is_call (codes "call") (tree_count ts) ≡ true →
-    let given : Builtins = whole v no_later preds in
+    let given : Builtins = whole v built_later preds in
     let l : Level = level_at given preds d in
     evaluated_all (trees_of args) e s ≡ record { trees = ts; slots = e; state = s } →
     meaning given (call (codes "call") args) (point l e s) ≡ then (first_called (setting v preds) l ts s) (λ r. one (point l e r))
 call-ran v preds d args ts e s is held_so =
-    let given : Builtins = whole v no_later preds in
+    let given : Builtins = whole v built_later preds in
     let l : Level = level_at given preds d in
     slot-ran v preds d (codes "call") args ts e s held_so
     ∙ ap (λ o. then (or_called o l (codes "call") ts s) (λ r. one (point l e r))) (does-call v preds l (codes "call") ts s is)
 
 -- a goal behind a Tick, at the lowest level and at any other
 tick-lowest : (v : View) (preds : List PredTree) (g : GoalTree) (e : Places) (s : State) →
-    let given : Builtins = whole v no_later preds in
+    let given : Builtins = whole v built_later preds in
     meaning given (seq (goal tick (goal g no_goals))) (point (level_at given preds zero) e s) ≡ end Deep
 unfolding meaning then level_at
 tick-lowest v preds g e s =
-    let given : Builtins = whole v no_later preds in
+    let given : Builtins = whole v built_later preds in
     let l : Level = level_at given preds zero in
     let goals : GoalTrees = goal tick (goal g no_goals) in
     draining-goes_on given preds l (calls-are given preds zero) (meaning_of_all given goals) e s
@@ -125,11 +127,11 @@ tick-lowest v preds g e s =
     (draining-goes_on given preds l (calls-are given preds zero) ticking e s ∙ ap (λ o. ticked o (λ m. one (point m e s))) (quiet-keeps-depth given preds None (length preds)))
 
 tick-over : (v : View) (preds : List PredTree) (d : ℕ) (g : GoalTree) (e : Places) (s : State) →
-    let given : Builtins = whole v no_later preds in
+    let given : Builtins = whole v built_later preds in
     meaning given (seq (goal tick (goal g no_goals))) (point (level_at given preds (suc d)) e s) ≡ note Tick (meaning given g (point (level_at given preds d) e s))
 unfolding meaning then level_at
 tick-over v preds d g e s =
-    let given : Builtins = whole v no_later preds in
+    let given : Builtins = whole v built_later preds in
     let l : Level = level_at given preds (suc d) in
     let lower_one : Level = level_at given preds d in
     let goals : GoalTrees = goal tick (goal g no_goals) in
@@ -146,38 +148,38 @@ unfolding then
 drained-goes_on given preds d s f = ap (λ t. then t f) (drains-at given preds (level_at given preds d) (calls-are given preds d) s) ∙ alt-done (f s)
 
 goal-called : (v : View) (preds : List PredTree) (d : ℕ) (t : Tree) (s : State) →
-    let l : Level = level_at (whole v no_later preds) preds d in
+    let l : Level = level_at (whole v built_later preds) preds d in
     call_goal l (called_below (setting v preds) l) t [] s ≡ first_called (setting v preds) l (tree t no_trees) s
 unfolding first_called each_tree
 goal-called v preds d t s =
-    let l : Level = level_at (whole v no_later preds) preds d in
-    drained-goes_on (whole v no_later preds) preds d s (λ r. called_below (setting v preds) l t [] r)
+    let l : Level = level_at (whole v built_later preds) preds d in
+    drained-goes_on (whole v built_later preds) preds d s (λ r. called_below (setting v preds) l t [] r)
 
 again-first : (v : View) (preds : List PredTree) (d : ℕ) (ts : Trees) (s : State) →
-    let l : Level = level_at (whole v no_later preds) preds d in
+    let l : Level = level_at (whole v built_later preds) preds d in
     again_called l (called_below (setting v preds) l) ts s ≡ first_called (setting v preds) l ts s
 unfolding first_called
 again-first v preds d no_trees s = refl
 again-first v preds d (tree t ts) s =
-    let l : Level = level_at (whole v no_later preds) preds d in
-    drained-goes_on (whole v no_later preds) preds d s (λ r. called_below (setting v preds) l t (each_tree ts) r)
+    let l : Level = level_at (whole v built_later preds) preds d in
+    drained-goes_on (whole v built_later preds) preds d s (λ r. called_below (setting v preds) l t (each_tree ts) r)
 
 -- what is called at the level of one depth less does the same and maybe less
 less-called : (v : View) (preds : List PredTree) (d : ℕ) (ts : Trees) (s : State) →
-    let given : Builtins = whole v no_later preds in
+    let given : Builtins = whole v built_later preds in
     Below (first_called (setting v preds) (level_at given preds d) ts s) (first_called (setting v preds) (level_at given preds (suc d)) ts s)
 less-called v preds d ts s =
-    let given : Builtins = whole v no_later preds in
-    first-below (setting v preds) no-later-adds (level_at given preds d) (level_at given preds (suc d)) (level-below given (whole-adds v no_later preds no-later-adds) preds d) ts s
+    let given : Builtins = whole v built_later preds in
+    first-below (setting v preds) built-later-adds (level_at given preds d) (level_at given preds (suc d)) (level-below given (whole-adds v built_later preds built-later-adds) preds d) ts s
 
 -- the call of what a slot holds, one level lower
 slot-called : (v : View) (preds : List PredTree) (d i : ℕ) (t : Tree) (e : Places) (s : State) → held e i ≡ Some t →
-    let given : Builtins = whole v no_later preds in
+    let given : Builtins = whole v built_later preds in
     let m : Level = level_at given preds (suc d) in
     BelowBy Leaves (meaning given (call_of_slot i) (point (level_at given preds d) e s)) (call_goal m (called_below (setting v preds) m) t [] s)
 unfolding tree_count
 slot-called v preds d i t e s h =
-    let given : Builtins = whole v no_later preds in
+    let given : Builtins = whole v built_later preds in
     let l : Level = level_at given preds d in
     let one_term : Trees = tree t no_trees in
     subst (λ u. BelowBy Leaves u (call_goal (level_at given preds (suc d)) (called_below (setting v preds) (level_at given preds (suc d))) t [] s))
@@ -189,13 +191,13 @@ slot-called v preds d i t e s h =
 
 -- the call of what a slot holds, as the goal of a `catch`
 slot-strictly : (v : View) (preds : List PredTree) (d i : ℕ) (t : Tree) (e : Places) (s : State) → held e i ≡ Some t →
-    let given : Builtins = whole v no_later preds in
+    let given : Builtins = whole v built_later preds in
     let m : Level = level_at given preds (suc d) in
     BelowBy Leaves (strictly (meaning given (call_of_slot i)) (point (level_at given preds d) e s))
     (then (call_goal m (called_below (setting v preds) m) t [] s) (λ r. (calls_at m).drained r))
 unfolding tree_count strictly
 slot-strictly v preds d i t e s h =
-    let given : Builtins = whole v no_later preds in
+    let given : Builtins = whole v built_later preds in
     let l : Level = level_at given preds d in
     let m : Level = level_at given preds (suc d) in
     let one_term : Trees = tree t no_trees in
@@ -220,14 +222,14 @@ handled-left s ball f g each (Some r) = by-then_same Leaves (settled s r) (settl
 
 -- the catch of three terms, behind its Tick
 catch-ran : (v : View) (preds : List PredTree) (d : ℕ) (g ball h : Tree) (s : State) →
-    let given : Builtins = whole v no_later preds in
+    let given : Builtins = whole v built_later preds in
     let m : Level = level_at given preds (suc d) in
     let ts : Trees = tree g (tree ball (tree h no_trees)) in
     BelowBy Leaves (meaning given (catch (call_of_slot 0) (var 1) (call_of_slot 2)) (point (level_at given preds d) (in_places ts) s))
     (catch_called m (called_below (setting v preds) m) ts s)
 unfolding meaning catching in_places
 catch-ran v preds d g ball h s =
-    let given : Builtins = whole v no_later preds in
+    let given : Builtins = whole v built_later preds in
     let l : Level = level_at given preds d in
     let m : Level = level_at given preds (suc d) in
     let e : Places = in_places (tree g (tree ball (tree h no_trees))) in
@@ -247,11 +249,11 @@ catch-ran v preds d g ball h s =
 
 abbrev pub called_name : View → List PredTree → ℕ → List ℕ → Trees → State → Trace State
 called_name v preds d name ts s =
-    let l : Level = level_at (whole v no_later preds) preds d in name_called (setting v preds) l (called_below (setting v preds) l) name ts s
+    let l : Level = level_at (whole v built_later preds) preds d in name_called (setting v preds) l (called_below (setting v preds) l) name ts s
 
 abbrev pub Runs : View → List PredTree → ℕ → GoalTree → List ℕ → Trees → State → Type 0
 Runs v preds d g name ts s =
-    let given : Builtins = whole v no_later preds in
+    let given : Builtins = whole v built_later preds in
     BelowBy Leaves (meaning given g (point (level_at given preds d) (in_places ts) s)) (called_name v preds d name ts s)
 
 second-of : {X : Type 0} (a b : Bool) (x y z : X) → a ≡ false → b ≡ true → cond a x (cond b y z) ≡ y
@@ -261,9 +263,9 @@ pub third-of : {X : Type 0} (a b : Bool) (x y z : X) → a ≡ false → b ≡ f
 third-of a b x y z h i = ap (λ c. cond c x (cond b y z)) h ∙ ap (λ c. cond c y z) i
 
 call-again : (v : View) (preds : List PredTree) (d : ℕ) (name : List ℕ) (ts : Trees) (s : State) → is_catch name (tree_count ts) ≡ false → is_call name (tree_count ts) ≡ true →
-    called_name v preds d name ts s ≡ note Tick (first_called (setting v preds) (level_at (whole v no_later preds) preds d) ts s)
+    called_name v preds d name ts s ≡ note Tick (first_called (setting v preds) (level_at (whole v built_later preds) preds d) ts s)
 call-again v preds d name ts s other is =
-    let l : Level = level_at (whole v no_later preds) preds d in
+    let l : Level = level_at (whole v built_later preds) preds d in
     second-of (is_catch name (tree_count ts)) (is_call name (tree_count ts)) (note Tick (catch_called l (called_below (setting v preds) l) ts s))
     (note Tick (again_called l (called_below (setting v preds) l) ts s)) (known_called (setting v preds) l name ts s) other is
     ∙ ap (note Tick) (again-first v preds d ts s)
@@ -274,7 +276,7 @@ runs-call v preds zero name ts s other is =
     subst (λ t. BelowBy Leaves t (called_name v preds zero name ts s)) (sym (tick-lowest v preds (call (codes "call") (slots_from 0 (tree_count ts))) (in_places ts) s))
     (deeper_by (called_name v preds zero name ts s))
 runs-call v preds (suc d) name ts s other is =
-    let given : Builtins = whole v no_later preds in
+    let given : Builtins = whole v built_later preds in
     let l : Level = level_at given preds d in
     let slots : List Tree = slots_from 0 (tree_count ts) in
     let is_so : is_call (codes "call") (tree_count ts) ≡ true = sym (ap (λ n. is_call n (tree_count ts)) (call-name name (tree_count ts) is)) ∙ is in
@@ -284,10 +286,10 @@ runs-call v preds (suc d) name ts s other is =
     (note_by Tick (states-left l (in_places ts) (first_called (setting v preds) l ts s) (first_called (setting v preds) (level_at given preds (suc d)) ts s) (less-called v preds d ts s))))
 
 catch-again : (v : View) (preds : List PredTree) (d : ℕ) (name : List ℕ) (ts : Trees) (s : State) → is_catch name (tree_count ts) ≡ true →
-    let l : Level = level_at (whole v no_later preds) preds d in
+    let l : Level = level_at (whole v built_later preds) preds d in
     called_name v preds d name ts s ≡ note Tick (catch_called l (called_below (setting v preds) l) ts s)
 catch-again v preds d name ts s is =
-    let l : Level = level_at (whole v no_later preds) preds d in
+    let l : Level = level_at (whole v built_later preds) preds d in
     ap (λ b. cond b (note Tick (catch_called l (called_below (setting v preds) l) ts s))
     (cond (is_call name (tree_count ts)) (note Tick (again_called l (called_below (setting v preds) l) ts s)) (known_called (setting v preds) l name ts s))) is
 
@@ -301,7 +303,7 @@ unfolding tree_count
 runs-three v preds d name (tree g (tree ball (tree h no_trees))) s many is =
     let ts : Trees = tree g (tree ball (tree h no_trees)) in
     subst (λ t. BelowBy Leaves t (called_name v preds (suc d) name ts s)) (sym (tick-over v preds d (catch (call_of_slot 0) (var 1) (call_of_slot 2)) (in_places ts) s))
-    (subst (λ t. BelowBy Leaves (note Tick (meaning (whole v no_later preds) (catch (call_of_slot 0) (var 1) (call_of_slot 2)) (point (level_at (whole v no_later preds) preds d) (in_places ts) s))) t)
+    (subst (λ t. BelowBy Leaves (note Tick (meaning (whole v built_later preds) (catch (call_of_slot 0) (var 1) (call_of_slot 2)) (point (level_at (whole v built_later preds) preds d) (in_places ts) s))) t)
     (sym (catch-again v preds (suc d) name ts s is)) (note_by Tick (catch-ran v preds d g ball h s)))
 runs-three v preds d name no_trees s many is = absurd cc
 runs-three v preds d name (tree g no_trees) s many is = absurd cc
@@ -315,15 +317,16 @@ runs-catch v preds zero name ts s is =
 runs-catch v preds (suc d) name ts s is = runs-three v preds d name ts s (is-three name (tree_count ts) is) is
 
 -- any other name, that isn't a planner call's
-known-there : (a b c : Bool) → (a || c) ≡ true → (a || (b || c)) ≡ true
-known-there true b c h = refl
-known-there false true c h = refl
-known-there false false c h = h
+known-there : (table posts later own : Bool) → (posts ≡ true → later ≡ true) → ((table || posts) || own) ≡ true → (table || (later || own)) ≡ true
+known-there true posts later own f h = refl
+known-there false posts true own f h = refl
+known-there false true false own f h = let e : false ≡ true = f refl in absurd cc
+known-there false false false own f h = h
 
 pub name-known : (v : View) (preds : List PredTree) (d : ℕ) (name : List ℕ) (ts : Trees) (s : State) → is_catch name (tree_count ts) ≡ false → is_call name (tree_count ts) ≡ false →
-    called_name v preds d name ts s ≡ known_called (setting v preds) (level_at (whole v no_later preds) preds d) name ts s
+    called_name v preds d name ts s ≡ known_called (setting v preds) (level_at (whole v built_later preds) preds d) name ts s
 name-known v preds d name ts s no_catch no_call =
-    let l : Level = level_at (whole v no_later preds) preds d in
+    let l : Level = level_at (whole v built_later preds) preds d in
     third-of (is_catch name (tree_count ts)) (is_call name (tree_count ts)) (note Tick (catch_called l (called_below (setting v preds) l) ts s))
     (note Tick (again_called l (called_below (setting v preds) l) ts s)) (known_called (setting v preds) l name ts s) no_catch no_call
 
@@ -336,19 +339,20 @@ not-planner v preds l name ts s other known is =
     ∙ ap (λ b. cond b (predicate_called (setting v preds) l name ts s) (unknown_name name (tree_count ts))) is
 
 named-called : (v : View) (preds : List PredTree) (l : Level) (name : List ℕ) (ts : Trees) (s : State) → is_call name (tree_count ts) ≡ false →
-    predicate_by (whole v no_later preds) l name ts s ≡ predicate_called (setting v preds) l name ts s
+    predicate_by (whole v built_later preds) l name ts s ≡ predicate_called (setting v preds) l name ts s
 unfolding predicate_called
 named-called v preds l name ts s other = ap (λ o. or_called o l name ts s) (not-call v preds l name ts s other)
 
 runs-name : (v : View) (preds : List PredTree) (d : ℕ) (name : List ℕ) (ts : Trees) (s : State) → is_planner name (tree_count ts) ≡ false → is_catch name (tree_count ts) ≡ false →
     is_call name (tree_count ts) ≡ false → is_there preds name (tree_count ts) ≡ true → Runs v preds d (call name (slots_from 0 (tree_count ts))) name ts s
 runs-name v preds d name ts s other no_catch no_call there =
-    let given : Builtins = whole v no_later preds in
+    let given : Builtins = whole v built_later preds in
     let l : Level = level_at given preds d in
     let t : Trace State = predicate_called (setting v preds) l name ts s in
     let same : called_name v preds d name ts s ≡ t =
     name-known v preds d name ts s no_catch no_call
-    ∙ not-planner v preds l name ts s other true (known-there (is_predicate name (tree_count ts)) (is_later_predicate name (tree_count ts)) (is_defined preds name (tree_count ts)) there) in
+    ∙ not-planner v preds l name ts s other true (known-there (is_predicate name (tree_count ts)) (is_constraint_goal name (tree_count ts)) (is_later_predicate name (tree_count ts)) (is_defined preds name (tree_count ts))
+    (goal-later name (tree_count ts)) there) in
     subst (λ u. BelowBy Leaves u (called_name v preds d name ts s))
     (sym (slot-ran v preds d name (slots_from 0 (tree_count ts)) ts (in_places ts) s (arguments-held ts s)
     ∙ ap (λ u. then u (λ r. one (point l (in_places ts) r))) (named-called v preds l name ts s no_call)))

@@ -10,7 +10,7 @@ use Rattle.pi_traces.specs.Trace.{Trace, end, note, End, Deep, Tick, Emitted, em
 use Rattle.pi_traces.specs.Depth.{Below, Cut, Ended, Spent, with_events, cut, CutWithoutDeep}
 use Rattle.pi_meaning.specs.Shared.View.{View}
 use Rattle.pi_meaning.specs.Shared.Names.{is_later_predicate, is_later_function, is_resource, is_call}
-use Rattle.pi_meaning.specs.CoreMeaning.Instances.{no_later, whole}
+use Rattle.pi_meaning.specs.CoreMeaning.Instances.{built_later, whole}
 use Rattle.pi_constraints.specs.Evaluation.{EvaluatedAll, evaluated_all}
 use Rattle.pi_meaning.specs.CoreMeaning.Quiet.{TicksBetween}
 use Rattle.pi_meaning.specs.CoreMeaning.Run.{Solution, query_trace, IsRunUnder}
@@ -18,7 +18,7 @@ use Rattle.pi_core.specs.declared.core_program.NameSlot.{NameSlot}
 use Rattle.pi_traces.proofs.BelowLemmas.{below-events}
 use Rattle.pi_traces.proofs.CutLemmas.{cut-below, cut-emit, cut-all, cut-at_tick}
 use Rattle.pi_meaning.proofs.CoreMeaning.QueryLemmas.{run-deeper}
-use Rattle.pi_meaning.proofs.Shared.CallLemmas.{no-later-adds, whole-adds}
+use Rattle.pi_meaning.proofs.Shared.CallLemmas.{built-later-adds, whole-adds}
 use Rattle.pi_meaning.specs.Machine.Configuration.{Frame, Entry, choice, strict, catch_level, left, Now, going, settling, failed, raising, Config, config, behind, telling}
 use Rattle.pi_meaning.specs.Shared.Settle.{settlement}
 use Rattle.pi_meaning.specs.Machine.Remaining.{remaining}
@@ -33,7 +33,7 @@ use Rattle.pi_meaning.proofs.Machine.GoodSteps.{step-good}
 use Rattle.pi_meaning.proofs.Machine.WeightSteps.{step-lighter}
 use Rattle.pi_meaning.proofs.Machine.LeadLemmas.{starts, ended-all, tick-begins, end-behind, events-before, led}
 use Rattle.pi_effects.specs.Effect.{FunctionEffect, Effect}
-use Rattle.pi_effects.specs.BuiltIns.{built_in_predicate, built_in_function}
+use Rattle.pi_meaning.specs.Shared.Effects.{predicate_effect, value_effect}
 
 -- ---- which steps there are
 
@@ -66,7 +66,7 @@ effect-proper v (Some d) preds name all gs k es = tt
 
 name-proper : (called : Bool) (v : View) (preds : List PredTree) (name : List ℕ) (all : EvaluatedAll) (gs : GoalTrees) (k : List Frame) (es : List Entry) → IsProper (name_step called v preds (name_call name all) (with_rest gs k es))
 name-proper true v preds name all gs k es = tt
-name-proper false v preds name all gs k es = effect-proper v (built_in_predicate name all.trees all.state) preds name all gs k es
+name-proper false v preds name all gs k es = effect-proper v (predicate_effect name all.trees all.state) preds name all gs k es
 
 function-proper : (o : Option PredTree) (all : EvaluatedAll) (into : ℕ) (k : List Frame) (es : List Entry) → IsProper (function_step o all into k es)
 function-proper None all into k es = tt
@@ -93,7 +93,7 @@ goal-proper v preds tick gs e s k es = tt
 goal-proper v preds (call name args) gs e s k es =
     let all : EvaluatedAll = evaluated_all (trees_of args) e s in name-proper (is_call name (tree_count all.trees)) v preds name all gs k es
 goal-proper v preds (apply name args into) gs e s k es =
-    let all : EvaluatedAll = evaluated_all (trees_of args) e s in value-proper v (built_in_function name all.trees all.state) preds name all into gs k es
+    let all : EvaluatedAll = evaluated_all (trees_of args) e s in value-proper v (value_effect name all.trees all.state) preds name all into gs k es
 goal-proper v preds (seq hs) gs e s k es = tt
 goal-proper v preds (alternatives hs) gs e s k es = tt
 goal-proper v preds (if_else test g other) gs e s k es = tt
@@ -215,14 +215,14 @@ ended-same e f h = cc
 
 pub ended-run : (v : View) (program : List PredTree) (q : QueryTree) (events : List (Emitted Solution)) (c : Config) (e : End) (n : ℕ) →
     Leads v (program ++ q.helpers) q.names events (start q) c → IsAtEnd v (program ++ q.helpers) q.names e c → count_ticks events ≤ n →
-    IsRunUnder (whole v no_later (program ++ q.helpers)) program q n (record { events = events; stop = Ended e })
+    IsRunUnder (whole v built_later (program ++ q.helpers)) program q n (record { events = events; stop = Ended e })
 ended-run v program q events c e n h k less =
     let all : (depth : ℕ) × ((more : ℕ) → remaining v (program ++ q.helpers) q.names (depth + more) (start q) ≡ emit events (end e)) =
     ended-all v (program ++ q.helpers) q.names events (start q) c e h k in
     let depth : ℕ = all.0 + 0 in
-    let trace : query_trace (whole v no_later (program ++ q.helpers)) program q depth ≡ emit events (end e) = sym (starts v program q depth) ∙ all.1 0 in
+    let trace : query_trace (whole v built_later (program ++ q.helpers)) program q depth ≡ emit events (end e) = sym (starts v program q depth) ∙ all.1 0 in
     let few : ticks (emit events (end e)) ≤ n = subst (λ es. count_ticks es ≤ n) (sym (events-before events e)) less in
-    let is_cut : record { events = events; stop = Ended e } ≡ cut n (query_trace (whole v no_later (program ++ q.helpers)) program q depth) =
+    let is_cut : record { events = events; stop = Ended e } ≡ cut n (query_trace (whole v built_later (program ++ q.helpers)) program q depth) =
     sym (ap (cut n) trace ∙ (cut-all n (emit events (end e)) few
     ∙ (ap (λ es. record { events = es; stop = Ended (end_of (emit events (end e))) }) (events-before events e)
     ∙ ap (λ x. record { events = events; stop = Ended x }) (end-behind events e)))) in
@@ -233,32 +233,32 @@ spent-not_deep h = cc
 
 pub spent-run : (v : View) (program : List PredTree) (q : QueryTree) (events : List (Emitted Solution)) (c : Config) →
     Leads v (program ++ q.helpers) q.names events (start q) c → IsAtTick v (program ++ q.helpers) q.names c →
-    IsRunUnder (whole v no_later (program ++ q.helpers)) program q (count_ticks events) (record { events = events; stop = Spent })
+    IsRunUnder (whole v built_later (program ++ q.helpers)) program q (count_ticks events) (record { events = events; stop = Spent })
 spent-run v program q events c h k =
     let all : (depth : ℕ) × ((more : ℕ) → (rest : Trace Solution) × (remaining v (program ++ q.helpers) q.names (depth + more) (start q) ≡ emit events (note Tick rest))) =
     tick-begins v (program ++ q.helpers) q.names events (start q) c h k in
     let depth : ℕ = all.0 + 0 in
     let begins : (rest : Trace Solution) × (remaining v (program ++ q.helpers) q.names depth (start q) ≡ emit events (note Tick rest)) = all.1 0 in
-    let is_cut : record { events = events; stop = Spent } ≡ cut (count_ticks events) (query_trace (whole v no_later (program ++ q.helpers)) program q depth) =
+    let is_cut : record { events = events; stop = Spent } ≡ cut (count_ticks events) (query_trace (whole v built_later (program ++ q.helpers)) program q depth) =
     sym (ap (cut (count_ticks events)) (sym (starts v program q depth) ∙ begins.1) ∙ cut-at_tick events begins.0) in
     record { depth = depth; reaches = λ deep. spent-not_deep (ap (λ c. c.stop) is_cut ∙ deep); is_cut = is_cut }
 
 -- a query's run at a greater depth
-run-later : (v : View) (program : List PredTree) (q : QueryTree) (n : ℕ) (run : Cut Solution) → (r : IsRunUnder (whole v no_later (program ++ q.helpers)) program q n run) → (more later : ℕ) → more + r.depth ≡ later →
-    cut n (query_trace (whole v no_later (program ++ q.helpers)) program q later) ≡ run
+run-later : (v : View) (program : List PredTree) (q : QueryTree) (n : ℕ) (run : Cut Solution) → (r : IsRunUnder (whole v built_later (program ++ q.helpers)) program q n run) → (more later : ℕ) → more + r.depth ≡ later →
+    cut n (query_trace (whole v built_later (program ++ q.helpers)) program q later) ≡ run
 run-later v program q n run r more later e =
-    subst (λ d. cut n (query_trace (whole v no_later (program ++ q.helpers)) program q d) ≡ run) (omega arith) (run-deeper (whole v no_later (program ++ q.helpers)) (whole-adds v no_later (program ++ q.helpers) no-later-adds) program q n run r more)
+    subst (λ d. cut n (query_trace (whole v built_later (program ++ q.helpers)) program q d) ≡ run) (omega arith) (run-deeper (whole v built_later (program ++ q.helpers)) (whole-adds v built_later (program ++ q.helpers) built-later-adds) program q n run r more)
 
 pub run-prefix : (v : View) (program : List PredTree) (q : QueryTree) (events : List (Emitted Solution)) (c : Config) (n : ℕ) (run : Cut Solution) →
-    Leads v (program ++ q.helpers) q.names events (start q) c → IsRunUnder (whole v no_later (program ++ q.helpers)) program q (count_ticks events + n) run →
+    Leads v (program ++ q.helpers) q.names events (start q) c → IsRunUnder (whole v built_later (program ++ q.helpers)) program q (count_ticks events + n) run →
     (rest : Cut Solution) × (run ≡ with_events events rest)
 run-prefix v program q events c n run h r =
     let preds : List PredTree = program ++ q.helpers in
     let depth : ℕ = h.depth 0 + r.depth in
     let t : Trace Solution = remaining v preds q.names 0 c in
-    let below : Below (emit events t) (query_trace (whole v no_later (program ++ q.helpers)) program q depth) =
+    let below : Below (emit events t) (query_trace (whole v built_later (program ++ q.helpers)) program q depth) =
     subst (λ u. Below (emit events t) u) (starts v program q depth) (led v preds q.names events (start q) c h 0 r.depth) in
-    let found : (rest : Trace Solution) × (query_trace (whole v no_later (program ++ q.helpers)) program q depth ≡ emit events rest) × Below t rest = below-events events t (query_trace (whole v no_later (program ++ q.helpers)) program q depth) below in (
+    let found : (rest : Trace Solution) × (query_trace (whole v built_later (program ++ q.helpers)) program q depth ≡ emit events rest) × Below t rest = below-events events t (query_trace (whole v built_later (program ++ q.helpers)) program q depth) below in (
       cut n found.0,
       sym (run-later v program q (count_ticks events + n) run r (h.depth 0) depth refl)
           ∙ (ap (cut (count_ticks events + n)) found.1 ∙ cut-emit events n found.0),

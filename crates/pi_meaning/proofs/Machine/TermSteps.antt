@@ -16,18 +16,20 @@ use Rattle.pi_traces.specs.Related.{end_by}
 use Rattle.pi_traces.proofs.RelatedLemmas.{by-then}
 use Rattle.pi_meaning.specs.Shared.View.{View}
 use Rattle.pi_meaning.specs.Shared.Level.{Level, lowest, over, LevelBelow, Point, PointBelow, same_but_level, or_called}
+use Rattle.pi_meaning.specs.Shared.Effects.{is_effect_name}
 use Rattle.pi_meaning.specs.Shared.Names.{is_later_predicate, is_planner, is_call}
 use Rattle.pi_meaning.specs.CoreMeaning.Builtins.{Builtins, BuiltinsOnlyAdd}
 use Rattle.pi_meaning.specs.Shared.Given.{Setting}
 use Rattle.pi_meaning.specs.CoreMeaning.Meaning.{meaning}
 use Rattle.pi_meaning.specs.CoreMeaning.Rules.{quiet_level, level_at}
 use Rattle.pi_meaning.specs.Shared.Calls.{Called as Named, called_by, unknown_name, with_planner, predicate_called, is_known, known_called, term_called, called_at_level, called_below, first_called}
-use Rattle.pi_meaning.specs.CoreMeaning.Instances.{no_later, whole}
-use Rattle.pi_meaning.proofs.Shared.CallLemmas.{no-later-adds, whole-adds}
+use Rattle.pi_meaning.specs.CoreMeaning.Instances.{built_later, whole}
+use Rattle.pi_meaning.proofs.Shared.CallLemmas.{built-later-adds, whole-adds}
 use Rattle.pi_meaning.proofs.Shared.KnownLemmas.{planner-later}
 use Rattle.pi_meaning.proofs.CoreMeaning.RuleLemmas.{level-below}
 use Rattle.pi_meaning.specs.Machine.NamedGoals.{goal_by_name}
-use Rattle.pi_meaning.proofs.Shared.NamesApart.{planner-no_predicate, planner-others}
+use Rattle.pi_meaning.proofs.Shared.EffectNames.{no-effect, no-predicate, planner-no_effect}
+use Rattle.pi_meaning.proofs.Shared.NamesApart.{planner-others}
 use Rattle.pi_meaning.proofs.Machine.NamedLemmas.{is_there, IsUnnamed, named-by, unnamed}
 use Rattle.pi_meaning.specs.Machine.Configuration.{Frame, Entry, Now, going, raising, config, behind, returning, in_places}
 use Rattle.pi_meaning.specs.Machine.Remaining.{point, continued, run_from, now_trace, remaining_at}
@@ -35,18 +37,17 @@ use Rattle.pi_meaning.specs.Machine.Step.{deeper, unknown_ball, is_defined, unkn
 use Rattle.pi_meaning.specs.Machine.Laws.{Comes}
 use Rattle.pi_meaning.proofs.Machine.RunLemmas.{returning-continued, goal-alone}
 use Rattle.pi_meaning.proofs.Machine.HigherLemmas.{Under, continued-under}
-use Rattle.pi_meaning.proofs.Machine.CallFound.{no-predicate}
 use Rattle.pi_meaning.proofs.Machine.CallSteps.{quiet-leads, name-ran}
 use Rattle.pi_meaning.proofs.Machine.NamesGiven.{setting, does-call, later-given}
 use Rattle.pi_meaning.proofs.Machine.NamedRuns.{Leaves, called_name, Runs, name-known, not-planner, runs-named}
 
 -- ---- names that nothing is found for
 
--- what a later stage gives isn't there
-later-unknown : (v : View) (preds : List PredTree) (l : Level) (name : List ℕ) (ts : Trees) (s : State) → is_predicate name (tree_count ts) ≡ false →
+-- what isn't built of later stages isn't there
+later-unknown : (v : View) (preds : List PredTree) (l : Level) (name : List ℕ) (ts : Trees) (s : State) → is_effect_name name (tree_count ts) ≡ false →
     is_later_predicate name (tree_count ts) ≡ true → predicate_called (setting v preds) l name ts s ≡ unknown_name name (tree_count ts)
 unfolding predicate_called
-later-unknown v preds l name ts s none later = ap (λ o. or_called o l name ts s) (later-given v preds l name ts s (no-predicate name ts s none) later)
+later-unknown v preds l name ts s none later = ap (λ o. or_called o l name ts s) (later-given v preds l name ts s (no-effect name ts s none) later)
 
 raised-by : (final action : Bool) (x y z : Tree) → cond {A = Trace State} final (cond action (end (Raise x)) (end (Raise y))) (end (Raise z)) ≡ end (Raise (cond final (cond action x y) z))
 raised-by true true x y z = refl
@@ -57,7 +58,7 @@ planner-unknown : (v : View) (preds : List PredTree) (d : ℕ) (name : List ℕ)
     called_name v preds d name ts s ≡ end (Raise (unknown_by preds name (tree_count ts)))
 unfolding unknown_by
 planner-unknown v preds d name ts s is =
-    let l : Level = level_at (whole v no_later preds) preds d in
+    let l : Level = level_at (whole v built_later preds) preds d in
     let set : Setting = setting v preds in
     let k : ℕ = tree_count ts in
     let t : Trace State = predicate_called set l name ts s in
@@ -65,7 +66,7 @@ planner-unknown v preds d name ts s is =
     let action : Bool = is_defined preds (codes "action") 4 in
     name-known v preds d name ts s (planner-others name k is).0 (planner-others name k is).1
     ∙ (ap (λ b. cond b (with_planner set t) (cond (is_known set name k) t (unknown_name name k))) is
-    ∙ (ap (with_planner set) (later-unknown v preds l name ts s (planner-no_predicate name k is) (planner-later name k is))
+    ∙ (ap (with_planner set) (later-unknown v preds l name ts s (planner-no_effect name k is) (planner-later name k is))
     ∙ (raised-by final action (unknown_ball name k) (unknown_ball (codes "action") 4) (unknown_ball (codes "final") 1)
     ∙ ap (λ b. end (Raise (cond b (cond final (cond action (unknown_ball name k) (unknown_ball (codes "action") 4)) (unknown_ball (codes "final") 1)) (unknown_ball name k)))) (sym is))))
 
@@ -89,11 +90,11 @@ unknown-known : (v : View) (preds : List PredTree) (l : Level) (name : List ℕ)
 unknown-known v preds l name ts s other not_there true is =
     let k : ℕ = tree_count ts in
     not-planner v preds l name ts s other true (known-later (is_predicate name k) (is_later_predicate name k) (is_defined preds name k) is)
-    ∙ later-unknown v preds l name ts s (neither-there (is_predicate name k) (is_defined preds name k) not_there).0 is
+    ∙ later-unknown v preds l name ts s (neither-there (is_effect_name name k) (is_defined preds name k) not_there).0 is
 unknown-known v preds l name ts s other not_there false is =
     let k : ℕ = tree_count ts in
-    let none : (is_predicate name k ≡ false) × (is_defined preds name k ≡ false) = neither-there (is_predicate name k) (is_defined preds name k) not_there in
-    not-planner v preds l name ts s other false (known-none (is_predicate name k) (is_later_predicate name k) (is_defined preds name k) none.0 is none.1)
+    let none : (is_effect_name name k ≡ false) × (is_defined preds name k ≡ false) = neither-there (is_effect_name name k) (is_defined preds name k) not_there in
+    not-planner v preds l name ts s other false (known-none (is_predicate name k) (is_later_predicate name k) (is_defined preds name k) (no-predicate name k none.0) is none.1)
 
 unnamed-unknown : (v : View) (preds : List PredTree) (d : ℕ) (name : List ℕ) (ts : Trees) (s : State) → is_planner name (tree_count ts) ≡ false → IsUnnamed preds name (tree_count ts) →
     called_name v preds d name ts s ≡ end (Raise (unknown_by preds name (tree_count ts)))
@@ -101,7 +102,7 @@ unfolding unknown_by
 unnamed-unknown v preds d name ts s other none =
     let k : ℕ = tree_count ts in
     name-known v preds d name ts s none.no_catch none.no_call
-    ∙ (unknown-known v preds (level_at (whole v no_later preds) preds d) name ts s other none.not_there (is_later_predicate name k) refl
+    ∙ (unknown-known v preds (level_at (whole v built_later preds) preds d) name ts s other none.not_there (is_later_predicate name k) refl
     ∙ ap (λ b. end (Raise (cond b (cond (is_defined preds (codes "final") 1) (cond (is_defined preds (codes "action") 4) (unknown_ball name k) (unknown_ball (codes "action") 4)) (unknown_ball (codes "final") 1))
     (unknown_ball name k)))) (sym other))
 
@@ -109,22 +110,22 @@ unnamed-unknown v preds d name ts s other none =
 
 -- what is behind the call of a term, in the caller's slots
 abbrev behind_call : View → List PredTree → ℕ → Places → List Frame → State → Trace Point
-behind_call v preds d e k r = let m : Level = level_at (whole v no_later preds) preds d in continued (whole v no_later preds) m k (point m e r)
+behind_call v preds d e k r = let m : Level = level_at (whole v built_later preds) preds d in continued (whole v built_later preds) m k (point m e r)
 
 -- the configuration to which `call` leads does the same and maybe less
 abbrev LeadsTo : View → List PredTree → ℕ → Places → List Frame → Trace Point → Trace State → Type 0
 LeadsTo v preds d e k t u = Under t (then u (behind_call v preds (suc d) e k))
 
 raised-leads : (v : View) (preds : List PredTree) (d : ℕ) (e : Places) (k : List Frame) (ball : Tree) (u : Trace State) → u ≡ end (Raise ball) →
-    LeadsTo v preds d e k (now_trace (whole v no_later preds) (level_at (whole v no_later preds) preds d) (raising ball)) u
+    LeadsTo v preds d e k (now_trace (whole v built_later preds) (level_at (whole v built_later preds) preds d) (raising ball)) u
 unfolding now_trace then
 raised-leads v preds d e k ball u is = subst (λ w. Under (end (Raise ball)) (then w (behind_call v preds (suc d) e k))) (sym is) (end_by (Raise ball))
 
 named-leads : (v : View) (preds : List PredTree) (d : ℕ) (name : List ℕ) (ts : Trees) (s : State) (e : Places) (k : List Frame) (g : GoalTree) → Runs v preds d g name ts s →
-    LeadsTo v preds d e k (run_from (whole v no_later preds) (level_at (whole v no_later preds) preds d) (goal g no_goals) (in_places ts) s (returning e k)) (called_name v preds d name ts s)
+    LeadsTo v preds d e k (run_from (whole v built_later preds) (level_at (whole v built_later preds) preds d) (goal g no_goals) (in_places ts) s (returning e k)) (called_name v preds d name ts s)
 named-leads v preds d name ts s e k g runs =
-    let given : Builtins = whole v no_later preds in
-    let adds : BuiltinsOnlyAdd given = whole-adds v no_later preds no-later-adds in
+    let given : Builtins = whole v built_later preds in
+    let adds : BuiltinsOnlyAdd given = whole-adds v built_later preds built-later-adds in
     let l : Level = level_at given preds d in
     let m : Level = level_at given preds (suc d) in
     let h : LevelBelow l m = level-below given adds preds d in
@@ -135,7 +136,7 @@ named-leads v preds d name ts s e k g runs =
     (continued-under given adds l m h k (point l e r) (point m e r) (same_but_level h e r))))
 
 abbrev now_at : View → List PredTree → ℕ → Now → Trace Point
-now_at v preds d now = now_trace (whole v no_later preds) (level_at (whole v no_later preds) preds d) now
+now_at v preds d now = now_trace (whole v built_later preds) (level_at (whole v built_later preds) preds d) now
 
 name-leads : (v : View) (preds : List PredTree) (d : ℕ) (name : List ℕ) (ts : Trees) (s : State) (e : Places) (k : List Frame) → is_planner name (tree_count ts) ≡ false →
     (o : Option GoalTree) → goal_by_name preds name (tree_count ts) ≡ o →
@@ -154,7 +155,7 @@ called-leads v preds d name ts s e k true is =
 called-leads v preds d name ts s e k false is = name-leads v preds d name ts s e k is (goal_by_name preds name (tree_count ts)) refl
 
 term-leads : (v : View) (preds : List PredTree) (d : ℕ) (t : Tree) (s : State) (e : Places) (k : List Frame) (o : Option Named) →
-    let l : Level = level_at (whole v no_later preds) preds d in
+    let l : Level = level_at (whole v built_later preds) preds d in
     LeadsTo v preds d e k (now_at v preds d (term_now preds t s (returning e k) o)) (term_called (setting v preds) l (called_below (setting v preds) l) t s o)
 term-leads v preds d t s e k None = raised-leads v preds d e k (type_error (codes "callable") t s) (end (Raise (type_error (codes "callable") t s))) refl
 term-leads v preds d t s e k (Some c) =
@@ -171,14 +172,14 @@ at-level set (over c l) t more s = refl
 
 -- the level of one depth more leads to that of a depth
 called-one_down : (v : View) (preds : List PredTree) (d : ℕ) (t : Tree) (ts : Trees) (s : State) →
-    let l : Level = level_at (whole v no_later preds) preds d in
-    first_called (setting v preds) (level_at (whole v no_later preds) preds (suc d)) (tree t ts) s
+    let l : Level = level_at (whole v built_later preds) preds d in
+    first_called (setting v preds) (level_at (whole v built_later preds) preds (suc d)) (tree t ts) s
     ≡ term_called (setting v preds) l (called_below (setting v preds) l) t s (called_by (followed (bindings s) t) (each_tree ts))
 unfolding first_called level_at quiet_level
-called-one_down v preds d t ts s = at-level (setting v preds) (level_at (whole v no_later preds) preds d) t (each_tree ts) s
+called-one_down v preds d t ts s = at-level (setting v preds) (level_at (whole v built_later preds) preds d) t (each_tree ts) s
 
 first-leads : (v : View) (preds : List PredTree) (d : ℕ) (ts : Trees) (s : State) (e : Places) (k : List Frame) →
-    LeadsTo v preds d e k (now_at v preds d (first_now preds ts s (returning e k))) (first_called (setting v preds) (level_at (whole v no_later preds) preds (suc d)) ts s)
+    LeadsTo v preds d e k (now_at v preds d (first_now preds ts s (returning e k))) (first_called (setting v preds) (level_at (whole v built_later preds) preds (suc d)) ts s)
 unfolding first_now first_called now_trace then
 first-leads v preds d no_trees s e k = end_by Done
 first-leads v preds d (tree t ts) s e k =
@@ -192,8 +193,8 @@ pub call-comes : (v : View) (preds : List PredTree) (names : List NameSlot) (nam
 unfolding remaining_at now_trace
 call-comes v preds names name args gs e s k es is = λ d.
     let all : EvaluatedAll = evaluated_all (trees_of args) e s in
-    let given : Builtins = whole v no_later preds in
-    let adds : BuiltinsOnlyAdd given = whole-adds v no_later preds no-later-adds in
+    let given : Builtins = whole v built_later preds in
+    let adds : BuiltinsOnlyAdd given = whole-adds v built_later preds built-later-adds in
     let l : Level = level_at given preds d in
     let m : Level = level_at given preds (suc d) in
     let t : Trace Point = now_at v preds d (first_now preds all.trees all.state (returning all.slots (behind gs k))) in

@@ -28,8 +28,9 @@ use Rattle.pi_meaning.proofs.Machine.WeightLemmas.{behind-weight, going-below, c
 use Rattle.pi_meaning.proofs.Machine.WeightParts.{Lighter, branch-lighter, done-lighter, given-lighter, taken-lighter, rules-lighter, facts-lighter, clauses-lighter, frame-lighter}
 use Rattle.pi_meaning.proofs.Machine.QuietWeights.{clauses-more, within-grows, quiet-weighs, none-of}
 use Rattle.pi_effects.specs.Effect.{Effect, FunctionEffect}
-use Rattle.pi_effects.specs.BuiltIns.{built_in_predicate, built_in_function, is_predicate, is_function}
-use Rattle.pi_effects.proofs.BuiltInLemmas.{predicates-listed, functions-listed}
+use Rattle.pi_effects.specs.BuiltIns.{is_predicate, is_function}
+use Rattle.pi_meaning.specs.Shared.Effects.{predicate_effect, value_effect, is_effect_name, is_value_name}
+use Rattle.pi_meaning.proofs.Shared.EffectNames.{effects-listed, values-listed, no-predicate, no-function}
 
 -- ---- goals
 
@@ -73,16 +74,16 @@ function-lighter preds (Some pred) name all into k es c found free h = call-ligh
     omega arith)
 
 later-lighter : (later : Bool) (preds : List PredTree) (name : List ℕ) (all : EvaluatedAll) (k : List Frame) (es : List Entry) (c : Config) → is_later_predicate name (tree_count all.trees) ≡ later →
-    is_call name (tree_count all.trees) ≡ false → is_predicate name (tree_count all.trees) ≡ false → CallWeighs preds false name all k es c → GetsLighter preds c (later_step later preds (name_call name all) k es)
+    is_call name (tree_count all.trees) ≡ false → is_effect_name name (tree_count all.trees) ≡ false → CallWeighs preds false name all k es c → GetsLighter preds c (later_step later preds (name_call name all) k es)
 unfolding weight_by now_weight
 later-lighter true preds name all k es c is no_call built h = omega arith
 later-lighter false preds name all k es c is no_call built h =
     predicate-lighter preds (find_pred false name (tree_count all.trees) preds) name all k es c refl
-    (none-of (is_call name (tree_count all.trees)) (is_predicate name (tree_count all.trees)) (is_later_predicate name (tree_count all.trees)) no_call built is) h
+    (none-of (is_call name (tree_count all.trees)) (is_predicate name (tree_count all.trees)) (is_later_predicate name (tree_count all.trees)) no_call (no-predicate name (tree_count all.trees) built) is) h
 
 effect-step-lighter : (v : View) (o : Option Effect) (preds : List PredTree) (name : List ℕ) (args : List Tree) (e : Places) (s : State) (gs : GoalTrees) (k : List Frame) (es : List Entry) →
     let all : EvaluatedAll = evaluated_all (trees_of args) e s in
-    built_in_predicate name all.trees all.state ≡ o → is_call name (tree_count all.trees) ≡ false →
+    predicate_effect name all.trees all.state ≡ o → is_call name (tree_count all.trees) ≡ false →
     GetsLighter preds (config (going (goal (call name args) gs) e s k) es) (effect_step v o preds (name_call name all) (with_rest gs k es))
 unfolding weight_by now_weight goal_weight
 effect-step-lighter v None preds name args e s gs k es is other =
@@ -93,7 +94,7 @@ effect-step-lighter v None preds name args e s gs k es is other =
     let heavy : _ = call-heavy (is_call name (length args)) r in
     let many : calls false name (tree_count all.trees) r ≡ calls false name (length args) r = ap (λ n. calls false name n r) (given-many args e s) in
     later-lighter (is_later_predicate name (tree_count all.trees)) preds name all (behind gs k) es (config (going (goal (call name args) gs) e s k) es) refl other
-    (sym (predicates-listed name all.trees all.state) ∙ ap is_some is)
+    (sym (effects-listed name all.trees all.state) ∙ ap is_some is)
     (subst (λ x. suc (suc x) + calls false name (tree_count all.trees) x + stack_weight calls es ≤ weight preds (config (going (goal (call name args) gs) e s k) es)) (sym (behind-weight calls gs k a)) (omega arith))
 effect-step-lighter v (Some d) preds name args e s gs k es is other =
     let all : EvaluatedAll = evaluated_all (trees_of args) e s in
@@ -121,15 +122,15 @@ name-lighter true v preds name args e s gs k es is =
     omega arith
 name-lighter false v preds name args e s gs k es is =
     let all : EvaluatedAll = evaluated_all (trees_of args) e s in
-    effect-step-lighter v (built_in_predicate name all.trees all.state) preds name args e s gs k es refl is
+    effect-step-lighter v (predicate_effect name all.trees all.state) preds name args e s gs k es refl is
 
 later-value-lighter : (later : Bool) (preds : List PredTree) (name : List ℕ) (all : EvaluatedAll) (into : ℕ) (k : List Frame) (es : List Entry) (c : Config) → is_later_function name (tree_count all.trees) ≡ later →
-    is_resource name (tree_count all.trees) ≡ false → is_function name (tree_count all.trees) ≡ false → CallWeighs preds true name all k es c → GetsLighter preds c (later_value later preds (name_call name all) into k es)
+    is_resource name (tree_count all.trees) ≡ false → is_value_name name (tree_count all.trees) ≡ false → CallWeighs preds true name all k es c → GetsLighter preds c (later_value later preds (name_call name all) into k es)
 unfolding weight_by now_weight
 later-value-lighter true preds name all into k es c is resource built h = omega arith
 later-value-lighter false preds name all into k es c is resource built h =
     function-lighter preds (find_pred true name (tree_count all.trees) preds) name all into k es c refl
-    (none-of (is_function name (tree_count all.trees)) (is_resource name (tree_count all.trees)) (is_later_function name (tree_count all.trees)) built resource is) h
+    (none-of (is_function name (tree_count all.trees)) (is_resource name (tree_count all.trees)) (is_later_function name (tree_count all.trees)) (no-function name (tree_count all.trees) built) resource is) h
 
 value-given-lighter : (preds : List PredTree) (d : FunctionEffect) (name : List ℕ) (args : List Tree) (into : ℕ) (e : Places) (s : State) (all : EvaluatedAll) (gs : GoalTrees) (k : List Frame) (es : List Entry) →
     GetsLighter preds (config (going (goal (apply name args into) gs) e s k) es) (silently (config (given_now d into gs all.slots k) es))
@@ -143,7 +144,7 @@ value-given-lighter preds d name args into e s all gs k es =
 
 other-value-lighter : (resource : Bool) (v : View) (preds : List PredTree) (name : List ℕ) (args : List Tree) (into : ℕ) (e : Places) (s : State) (gs : GoalTrees) (k : List Frame) (es : List Entry) →
     let all : EvaluatedAll = evaluated_all (trees_of args) e s in
-    is_resource name (tree_count all.trees) ≡ resource → is_function name (tree_count all.trees) ≡ false →
+    is_resource name (tree_count all.trees) ≡ resource → is_value_name name (tree_count all.trees) ≡ false →
     GetsLighter preds (config (going (goal (apply name args into) gs) e s k) es) (other_value resource v preds (name_call name all) into (with_rest gs k es))
 unfolding weight_by now_weight goal_weight
 other-value-lighter true v preds name args into e s gs k es is built =
@@ -159,10 +160,10 @@ other-value-lighter false v preds name args into e s gs k es is built =
 
 value-step-lighter : (v : View) (o : Option FunctionEffect) (preds : List PredTree) (name : List ℕ) (args : List Tree) (into : ℕ) (e : Places) (s : State) (gs : GoalTrees) (k : List Frame) (es : List Entry) →
     let all : EvaluatedAll = evaluated_all (trees_of args) e s in
-    built_in_function name all.trees all.state ≡ o → GetsLighter preds (config (going (goal (apply name args into) gs) e s k) es) (value_step v o preds (name_call name all) into (with_rest gs k es))
+    value_effect name all.trees all.state ≡ o → GetsLighter preds (config (going (goal (apply name args into) gs) e s k) es) (value_step v o preds (name_call name all) into (with_rest gs k es))
 value-step-lighter v None preds name args into e s gs k es is =
     let all : EvaluatedAll = evaluated_all (trees_of args) e s in
-    other-value-lighter (is_resource name (tree_count all.trees)) v preds name args into e s gs k es refl (sym (functions-listed name all.trees all.state) ∙ ap is_some is)
+    other-value-lighter (is_resource name (tree_count all.trees)) v preds name args into e s gs k es refl (sym (values-listed name all.trees all.state) ∙ ap is_some is)
 value-step-lighter v (Some d) preds name args into e s gs k es is =
     let all : EvaluatedAll = evaluated_all (trees_of args) e s in value-given-lighter preds d name args into e s all gs k es
 
@@ -179,7 +180,7 @@ goal-lighter v preds (call name args) gs e s k es =
     name-lighter (is_call name (tree_count all.trees)) v preds name args e s gs k es refl
 goal-lighter v preds (apply name args into) gs e s k es =
     let all : EvaluatedAll = evaluated_all (trees_of args) e s in
-    value-step-lighter v (built_in_function name all.trees all.state) preds name args into e s gs k es refl
+    value-step-lighter v (value_effect name all.trees all.state) preds name args into e s gs k es refl
 goal-lighter v preds (seq hs) gs e s k es =
     let calls : CallWeights = program_calls preds in
     let a : ℕ = answer_weight calls 0 es in

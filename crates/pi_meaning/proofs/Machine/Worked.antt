@@ -47,7 +47,7 @@ use Rattle.pi_meaning.specs.OverNames.Telling.{told_behind, told_values, if_tell
 use Rattle.pi_core.specs.declared.answer.NamedTerm.{NamedTerm}
 use Rattle.pi_meaning.specs.Shared.View.{View, query_view}
 use Rattle.pi_meaning.specs.OverNames.Texts.{places, places_all, places_caught, places_of_branches, occurring, occurring_all, occurring_in_branches, behind, patterns_of, assigned as assigned_names, assigned_all, assigned_in_branches}
-use Rattle.pi_meaning.specs.OverNames.Stages.{LaterStages, no_stages}
+use Rattle.pi_meaning.specs.OverNames.Stages.{LaterStages, built_stages}
 use Rattle.pi_meaning.specs.OverNames.Assigning.{with_value, with_names}
 use Rattle.pi_meaning.specs.OverNames.Terms.{items_onto, written_term, written_terms}
 use Rattle.pi_meaning.specs.OverNames.Heads.{characters_matched, pattern_matched, patterns_matched, items_matched}
@@ -63,6 +63,7 @@ use Rattle.pi_meaning.specs.OverNames.Run.{names_from, names_trace, answer_names
 use Rattle.pi_meaning.specs.Shared.Settle.{settled, settlement, is_unchanged, are_unchanged}
 use Rattle.pi_settling.specs.Settle.{settlement as settlement_of_goal, stable_state, passes, runs_of}
 use Rattle.pi_settling.specs.Settled.{loaded}
+use Rattle.pi_settling.specs.Goals.{constraint_goals}
 use Rattle.pi_settling.specs.Load.{count_due, same_domain}
 use Rattle.pi_settling.specs.Events.{events_from, variable_events}
 use Rattle.pi_settling.specs.Answers.{activations, activations_from}
@@ -89,14 +90,14 @@ pub record Outcome : Type 0 where
 
 -- the run of a goal, cut before Tick number n + 1, taken at a depth
 unfoldable pub run_with : LaterStages → View → ProgramTree → ExpTree → ℕ → ℕ → Outcome
-unfolding places_caught names_trace names_from told_behind told_values if_tellable then alt first negated chosen collected counted caught cut settled settlement is_unchanged are_unchanged settlement_of_goal stable_state passes runs_of loaded count_due same_domain events_from variable_events activations activations_from drained raised_with meant fits_modes places places_all places_of_branches occurring occurring_all occurring_in_branches behind patterns_of assigned_names assigned_all assigned_in_branches with_value with_names items_onto written_term written_terms characters_matched pattern_matched patterns_matched items_matched later_predicates is_later_predicate is_later_function predicate_given predicate_called function_given function_called called_at_level first_called draining strictly applied_to all_found all_counted called_with calling_term choosing denying taken_once catching goal_at value_at closed elements iterating turning while_turns do_turns comprehended form_of atom_goal readings operand_readings call_value range_value indexed_by value_of values_of values_in values_apart goals_in goal_of all_of any_of arrow_in branches_of units_of collection_of modes_named rules_called facts_called functions_called calls_by level_for prelude exp_count list_of_copies new_in_all built_in_function built_in_predicate is_predicate has_line tests comparing_tests kind_tests writing_predicates other_predicates pieces filled_in formatted reading_functions done_by integer_functions collection_functions sorting_functions index_functions range_functions naming_functions text_functions making_functions total inserted sorted each_once indexed values_by new_rows each_tree list_onto items_for list_items thrown exception_with type_error tree_count cells order occurrences firsts instance copy rounds value followed_for followed in_pairs assigned joined outcome unified_for unbound_in cells_of_pairs most_pairs all_unified with_new_variables power operation is_reserved is_unquoted_atom stands_bare atom_text is_characters characters written chars encode_utf8 digits
+unfolding places_caught names_trace names_from told_behind told_values if_tellable then alt first negated chosen collected counted caught cut settled settlement is_unchanged are_unchanged settlement_of_goal stable_state passes runs_of loaded count_due same_domain events_from variable_events activations activations_from drained raised_with meant fits_modes places places_all places_of_branches occurring occurring_all occurring_in_branches behind patterns_of assigned_names assigned_all assigned_in_branches with_value with_names items_onto written_term written_terms characters_matched pattern_matched patterns_matched items_matched later_predicates is_later_predicate is_later_function constraint_goals predicate_given predicate_called function_given function_called called_at_level first_called draining strictly applied_to all_found all_counted called_with calling_term choosing denying taken_once catching goal_at value_at closed elements iterating turning while_turns do_turns comprehended form_of atom_goal readings operand_readings call_value range_value indexed_by value_of values_of values_in values_apart goals_in goal_of all_of any_of arrow_in branches_of units_of collection_of modes_named rules_called facts_called functions_called calls_by level_for prelude exp_count list_of_copies new_in_all built_in_function built_in_predicate is_predicate has_line tests comparing_tests kind_tests writing_predicates other_predicates pieces filled_in formatted reading_functions done_by integer_functions collection_functions sorting_functions index_functions range_functions naming_functions text_functions making_functions total inserted sorted each_once indexed values_by new_rows each_tree list_onto items_for list_items thrown exception_with type_error tree_count cells order occurrences firsts instance copy rounds value followed_for followed in_pairs assigned joined outcome unified_for unbound_in cells_of_pairs most_pairs all_unified with_new_variables power operation is_reserved is_unquoted_atom stands_bare atom_text is_characters characters written chars encode_utf8 digits
 run_with later v program goal n depth =
     let c : Cut Told = cut n (told_trace (place_told (answer_names goal)) (names_trace v later program goal depth)) in
     record { events = map seen_of c.events; stop = c.stop }
 
 unfoldable pub run_in : View → ProgramTree → ExpTree → ℕ → ℕ → Outcome
 unfolding run_with
-run_in v program goal n depth = run_with no_stages v program goal n depth
+run_in v program goal n depth = run_with built_stages v program goal n depth
 
 -- a query
 unfoldable pub run_of : ProgramTree → ExpTree → ℕ → ℕ → Outcome

@@ -135,10 +135,10 @@ names-unknown :
 unfolding run_of
 names-unknown = refl
 
--- call('#=', 1, 1): what a later stage will give is unknown where none is there
+-- call(solve, 1): what isn't built of later stages is unknown
 later-unknown :
-    run_of [] (calls (codes "call") (name (codes "#=") ∷ i 1 ∷ i 1 ∷ [])) 9 2
-    ≡ raised_with [] (compound (codes "unknown_name") (atom (codes "#=") ∷ n 2 ∷ []))
+    run_of [] (calls (codes "call") (name (codes "solve") ∷ i 1 ∷ [])) 9 2
+    ≡ raised_with [] (compound (codes "unknown_name") (atom (codes "solve") ∷ n 1 ∷ []))
 unfolding run_of
 later-unknown = refl
 

@@ -16,11 +16,11 @@ use Rattle.pi_meaning.specs.OverNames.Environment.{Environment}
 use Rattle.pi_meaning.specs.OverNames.Place.{Place, beginning}
 use Rattle.pi_meaning.specs.OverNames.WrittenRules.{head_arguments}
 use Rattle.pi_meaning.specs.OverNames.Telling.{telling, place_told, told_trace, told_cut}
-use Rattle.pi_meaning.proofs.Shared.CallLemmas.{no-later-adds}
+use Rattle.pi_meaning.proofs.Shared.CallLemmas.{built-later-adds}
 use Rattle.pi_meaning.proofs.OverNames.ToldCuts.{cut-told}
 use Rattle.pi_meaning.specs.Shared.View.{View}
 use Rattle.pi_meaning.specs.OverNames.Texts.{Names, places, behind}
-use Rattle.pi_meaning.specs.OverNames.Stages.{LaterStages, no_stages, RulesSetting}
+use Rattle.pi_meaning.specs.OverNames.Stages.{LaterStages, built_stages, RulesSetting}
 use Rattle.pi_meaning.specs.OverNames.Heads.{patterns_matched}
 use Rattle.pi_meaning.specs.Shared.Given.{LaterOnlyAdds}
 use Rattle.pi_meaning.specs.OverNames.Forms.{plain}
@@ -120,9 +120,9 @@ names-deeper v later adds program goal d =
     (levels-ascend (setting v later program) adds (prelude ++ program) d) beginning)
     (λ p. below-refl (telling (answer_names goal) p))
 
--- where there is no later stage, more depth only adds
-pub no-stages-add : LaterOnlyAdds no_stages.calls
-no-stages-add = no-later-adds
+-- with what is built of later stages, more depth only adds
+pub built-stages-add : LaterOnlyAdds built_stages.calls
+built-stages-add = built-later-adds
 
 -- ---- runs
 

@@ -14,7 +14,7 @@ use Rattle.pi_meaning.specs.Shared.Builtin.{effect, function_effect}
 use Rattle.pi_meaning.specs.Shared.Given.{Setting, LaterOnlyAdds}
 use Rattle.pi_meaning.specs.Shared.Handling.{handled_in, handling}
 use Rattle.pi_meaning.specs.Shared.Calls.{built_in, given_later, predicate_given, predicate_called, function_given, function_called, Called, called_by, with_planner, is_known, known_called, call_goal, catch_called, again_called, term_called, called_at_level, called_below, first_called, unknown_name}
-use Rattle.pi_meaning.specs.CoreMeaning.Instances.{tabled, core_setting, predicate_or_call, no_later}
+use Rattle.pi_meaning.specs.CoreMeaning.Instances.{tabled, core_setting, predicate_or_call, built_later}
 use Rattle.pi_meaning.specs.CoreMeaning.Builtins.{BuiltinsOnlyAdd}
 use Rattle.pi_meaning.specs.Shared.View.{View}
 use Rattle.pi_meaning.specs.CoreMeaning.Laws.{WholeOnlyAdds}
@@ -172,8 +172,8 @@ or-call-below set adds l m h name ts s =
     some-below (is_call name (tree_count ts)) (first_called set l ts s) (first_called set m ts s) (predicate_given set l name ts s) (predicate_given set m name ts s)
     (first-below set adds l m h ts s) (given-below set adds l m h name ts s)
 
-pub no-later-adds : LaterOnlyAdds no_later
-no-later-adds v l m h name ts s = below-refl (unknown_name name (tree_count ts))
+pub built-later-adds : LaterOnlyAdds built_later
+built-later-adds v l m h name ts s = below-refl (built_later.predicate v l name ts s)
 
 pub whole-adds : WholeOnlyAdds
 whole-adds v later preds adds = record {

@@ -37,13 +37,14 @@ use Rattle.pi_meaning.specs.Shared.Raise.{raised_with}
 use Rattle.pi_meaning.specs.Shared.Names.{later_predicates, is_later_predicate, is_later_function}
 use Rattle.pi_meaning.specs.Shared.Given.{Later}
 use Rattle.pi_meaning.specs.Shared.Calls.{predicate_given, predicate_called, function_given, called_at_level, first_called}
-use Rattle.pi_meaning.specs.CoreMeaning.Instances.{no_later, whole}
+use Rattle.pi_meaning.specs.CoreMeaning.Instances.{built_later, whole}
 use Rattle.pi_meaning.specs.CoreMeaning.Meaning.{draining, strictly, calling, applying, catching, meaning, meaning_of_all}
 use Rattle.pi_meaning.specs.CoreMeaning.Rules.{pred_run, function_run, calls_of, rules, quiet_level, level_at}
 use Rattle.pi_meaning.specs.CoreMeaning.Run.{Solution, told, query_trace}
 use Rattle.pi_meaning.specs.Shared.Settle.{settled, settlement, is_unchanged, are_unchanged}
 use Rattle.pi_settling.specs.Settle.{settlement as settlement_of_goal, stable_state, passes, runs_of}
 use Rattle.pi_settling.specs.Settled.{loaded}
+use Rattle.pi_settling.specs.Goals.{constraint_goals}
 use Rattle.pi_settling.specs.Load.{count_due, same_domain}
 use Rattle.pi_settling.specs.Events.{events_from, variable_events}
 use Rattle.pi_settling.specs.Answers.{activations, activations_from}
@@ -152,9 +153,9 @@ stages-give :
 unfolding run_given
 stages-give = (refl, refl, refl)
 
--- where no later stage is there, what one will give is unknown to `call`; the predicates that a planner call wants are told first
+-- what isn't built of later stages is unknown to `call`; the predicates that a planner call wants are told first
 stages-lack :
-    (run_given no_later (query_view []) (call_of (atom (codes "#=") ∷ int (pos 1) ∷ int (pos 1) ∷ [])) 1 ≡ end (Raise (unknown (codes "#=") 2)))
-    × (run_given no_later (query_view []) (call_of (atom (codes "plan") ∷ atom (codes "a") ∷ var 0 ∷ [])) 1 ≡ end (Raise (unknown (codes "final") 1)))
-unfolding run_given
+    (run_given built_later (query_view []) (call_of (atom (codes "solve") ∷ var 0 ∷ [])) 1 ≡ end (Raise (unknown (codes "solve") 1)))
+    × (run_given built_later (query_view []) (call_of (atom (codes "plan") ∷ atom (codes "a") ∷ var 0 ∷ [])) 1 ≡ end (Raise (unknown (codes "final") 1)))
+unfolding run_given done_by constraint_goals
 stages-lack = (refl, refl)

@@ -105,7 +105,7 @@ built-same v later preds l name ts s h =
     (some-map (settled_effect v s) (built_in_predicate name ts s) ∙ (predicates-listed name ts s ∙ h))
 
 pub predicate-same : (v : View) (later : Later) (preds : List PredTree) → NamesAreFree preds → (l : Level) (name : List ℕ) (ts : Trees) (s : State) →
-    defined_by is_predicate preds false name (tree_count ts) → predicate_or_call (core_setting v later preds) l name ts s ≡ effect v name ts s
+    defined_by is_predicate is_function preds false name (tree_count ts) → predicate_or_call (core_setting v later preds) l name ts s ≡ effect v name ts s
 predicate-same v later preds free l name ts s (inl found) =
     none-same v later preds l name ts s (free-found preds free false name (tree_count ts) (find_pred false name (tree_count ts) preds) refl found)
 predicate-same v later preds free l name ts s (inr built) = built-same v later preds l name ts s built
@@ -129,14 +129,14 @@ built-function-same v later preds name ts s h =
     (some-map function_trace (built_in_function name ts s) ∙ (functions-listed name ts s ∙ h))
 
 pub function-same : (v : View) (later : Later) (preds : List PredTree) → NamesAreFree preds → (name : List ℕ) (ts : Trees) (s : State) →
-    defined_by is_predicate preds true name (tree_count ts) → function_given (core_setting v later preds) name ts s ≡ function_effect name ts s
+    defined_by is_predicate is_function preds true name (tree_count ts) → function_given (core_setting v later preds) name ts s ≡ function_effect name ts s
 function-same v later preds free name ts s (inl found) =
     no-function-same v later preds name ts s (free-found preds free true name (tree_count ts) (find_pred true name (tree_count ts) preds) refl found)
 function-same v later preds free name ts s (inr built) = built-function-same v later preds name ts s built
 
 -- ---- calls, and the whole
 
-whole-below : (v : View) (later : Later) (preds : List PredTree) → NamesAreFree preds → CallsMore (defined_by is_predicate preds) (whole v later preds) (tabled v)
+whole-below : (v : View) (later : Later) (preds : List PredTree) → NamesAreFree preds → CallsMore (defined_by is_predicate is_function preds) (whole v later preds) (tabled v)
 whole-below v later preds free = record {
   predicates = λ l m h name ts s k.
       subst (λ (o : Option (Trace State)). Below (or_called o l name ts s) (predicate_by (tabled v) m name ts s)) (sym (predicate-same v later preds free l name ts s k))
@@ -146,7 +146,7 @@ whole-below v later preds free = record {
       ((tabled-adds v).functions l m h name ts s);
 }
 
-below-whole : (v : View) (later : Later) (preds : List PredTree) → NamesAreFree preds → CallsMore (defined_by is_predicate preds) (tabled v) (whole v later preds)
+below-whole : (v : View) (later : Later) (preds : List PredTree) → NamesAreFree preds → CallsMore (defined_by is_predicate is_function preds) (tabled v) (whole v later preds)
 below-whole v later preds free = record {
   predicates = λ l m h name ts s k.
       subst (λ (o : Option (Trace State)). Below (predicate_by (tabled v) l name ts s) (or_called o m name ts s)) (sym (predicate-same v later preds free m name ts s k))
@@ -160,10 +160,10 @@ pub tabled-is-whole : TabledIsWhole
 unfolding query_trace
 tabled-is-whole v later program q are free d =
     let preds : List PredTree = program ++ q.helpers in
-    let goal : CallsIn (defined_by is_predicate preds) q.goal = goal-calls is_predicate preds q.goal are.goal in
-    let calls : ProgramCalls (defined_by is_predicate preds) preds = program-calls is_predicate preds are.preds in
+    let goal : CallsIn (defined_by is_predicate is_function preds) q.goal = goal-calls is_predicate is_function preds q.goal are.goal in
+    let calls : ProgramCalls (defined_by is_predicate is_function preds) preds = program-calls is_predicate is_function preds are.preds in
     below-antisym (query_trace (whole v later preds) program q d) (query_trace (tabled v) program q d)
-    (query-below (defined_by is_predicate preds) (whole v later preds) (tabled v) (whole-below v later preds free) q goal (level_at (whole v later preds) preds d) (level_at (tabled v) preds d)
-    (levels-below (defined_by is_predicate preds) (whole v later preds) (tabled v) (whole-below v later preds free) preds calls d))
-    (query-below (defined_by is_predicate preds) (tabled v) (whole v later preds) (below-whole v later preds free) q goal (level_at (tabled v) preds d) (level_at (whole v later preds) preds d)
-    (levels-below (defined_by is_predicate preds) (tabled v) (whole v later preds) (below-whole v later preds free) preds calls d))
+    (query-below (defined_by is_predicate is_function preds) (whole v later preds) (tabled v) (whole-below v later preds free) q goal (level_at (whole v later preds) preds d) (level_at (tabled v) preds d)
+    (levels-below (defined_by is_predicate is_function preds) (whole v later preds) (tabled v) (whole-below v later preds free) preds calls d))
+    (query-below (defined_by is_predicate is_function preds) (tabled v) (whole v later preds) (below-whole v later preds free) q goal (level_at (tabled v) preds d) (level_at (whole v later preds) preds d)
+    (levels-below (defined_by is_predicate is_function preds) (tabled v) (whole v later preds) (below-whole v later preds free) preds calls d))

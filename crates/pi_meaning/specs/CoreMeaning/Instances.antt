@@ -1,6 +1,6 @@
 -- The two kinds of built-ins that the core meaning is taken with: all names of the language, for a program, which is what a machine runs; and the tables' alone, of which the law
 -- on the states of runs speaks. (A User's Guide to Picat, 'Appendix: Predicates and Functions'; which names are there is own.)
-use Rattle.std.specs.Prelude.{ℕ, Bool, false, not, cond, List, Option, Some, None}
+use Rattle.std.specs.Prelude.{ℕ, Bool, false, not, cond, List, Option, Some, None, option_map, unwrap_or}
 use Rattle.pi_terms.specs.Tree.{Trees, tree_count}
 use Rattle.pi_constraints.specs.State.{State}
 use Rattle.pi_core.specs.CoreTree.{PredTree, find_pred}
@@ -8,7 +8,9 @@ use Rattle.pi_traces.specs.Trace.{Trace, done}
 use Rattle.pi_meaning.specs.Shared.View.{View}
 use Rattle.pi_meaning.specs.Shared.Level.{Level}
 use Rattle.pi_meaning.specs.Shared.Names.{is_call}
-use Rattle.pi_meaning.specs.Shared.Builtin.{effect, function_effect}
+use Rattle.pi_settling.specs.Goals.{constraint_effect}
+use Rattle.pi_settling.specs.DomainValues.{domain_function}
+use Rattle.pi_meaning.specs.Shared.Builtin.{settled_effect, function_trace, effect, function_effect}
 use Rattle.pi_meaning.specs.CoreMeaning.Builtins.{Builtins}
 use Rattle.pi_meaning.specs.Shared.Given.{Later, Setting}
 use Rattle.pi_meaning.specs.Shared.Calls.{predicate_given, function_given, first_called, unknown_name}
@@ -29,9 +31,13 @@ core_setting v later preds = record { view = v; later = later; defines = λ name
 abbrev pub predicate_or_call : Setting → Level → List ℕ → Trees → State → Option (Trace State)
 predicate_or_call set l name ts s = cond (is_call name (tree_count ts)) (Some (first_called set l ts s)) (predicate_given set l name ts s)
 
--- No later stage is there: what it will give is as unknown to `call` as a name that nothing has.
-abbrev pub no_later : Later
-no_later = record { predicate = λ v l name ts s. unknown_name name (tree_count ts); function = λ name ts s. done }
+-- What is built of what later stages give: goals of constraints, each settled by itself, and functions of domains. Labelling, events and planner calls aren't there: what they
+-- will give is as unknown to `call` as a name that nothing has.
+abbrev pub built_later : Later
+built_later = record {
+  predicate = λ v l name ts s. unwrap_or (option_map (settled_effect v s) (constraint_effect name ts s)) (unknown_name name (tree_count ts));
+  function = λ name ts s. unwrap_or (option_map function_trace (domain_function name ts s)) done;
+}
 
 -- all names of the language, for a program
 abbrev pub whole : View → Later → List PredTree → Builtins

@@ -1,18 +1,19 @@
--- The laws of the core meaning: more depth only adds, and so the run of a query is one; where no later stage is there, each query has its run; and where a query calls
+-- The laws of the core meaning: more depth only adds, and so the run of a query is one; with what is built of later stages each query has its run; and where a query calls
 -- nothing but built-ins of the tables, that is its run with these alone.
 use Rattle.std.specs.Prelude.{◌≡◌, ℕ, suc, ◌+◌, true, false, List, ◌++◌, Option, Some, is_some, length, Contains}
 use Rattle.pi_terms.specs.Tree.{Trees, tree_count}
-use Rattle.pi_constraints.specs.State.{State, next, IsState, PlacesBelow}
+use Rattle.pi_constraints.specs.State.{State, next, PlacesBelow}
 use Rattle.pi_core.specs.GoalTree.{GoalTree}
-use Rattle.pi_effects.specs.BuiltIns.{is_predicate}
+use Rattle.pi_effects.specs.BuiltIns.{is_predicate, is_function}
 use Rattle.pi_traces.specs.Trace.{WithoutDeep, answers}
 use Rattle.pi_traces.specs.Depth.{DepthOnlyAdds, Cut, cut, CutWithoutDeep}
 use Rattle.pi_traces.specs.Related.{BelowBy}
+use Rattle.pi_settling.specs.Calm.{IsCalm}
 use Rattle.pi_meaning.specs.Shared.View.{View, PlansAreGround}
 use Rattle.pi_meaning.specs.Shared.Names.{is_given}
 use Rattle.pi_meaning.specs.CoreMeaning.Builtins.{Builtins, BuiltinsOnlyAdd}
 use Rattle.pi_meaning.specs.Shared.Given.{Later, LaterOnlyAdds}
-use Rattle.pi_meaning.specs.CoreMeaning.Instances.{tabled, no_later, whole}
+use Rattle.pi_meaning.specs.CoreMeaning.Instances.{tabled, built_later, whole}
 use Rattle.pi_meaning.specs.CoreMeaning.Defined.{QueryCallsAmong, NamesAreFree}
 use Rattle.pi_core.specs.CoreTree.{PredTree, QueryTree}
 use Rattle.pi_meaning.specs.Shared.Level.{Level, lower, Point, LevelBelow, PointBelow}
@@ -67,22 +68,22 @@ abbrev pub DeeperRunsAreTheRun : Type 0
 DeeperRunsAreTheRun = (b : Builtins) → BuiltinsOnlyAdd b → (program : List PredTree) (q : QueryTree) (n : ℕ) (c : Cut Solution) (r : IsRunUnder b program q n c) (more : ℕ) →
     cut n (query_trace b program q (r.depth + more)) ≡ c
 
--- ---- where no later stage is there, under every view. Under `query_view log` runs are those under a log (`IsRun`).
+-- ---- with what is built of later stages, under every view. Under `query_view log` runs are those under a log (`IsRun`).
 
 -- Where Ticks stand between the calls of quiet predicates, there is a depth that reaches to each Tick of a query's trace: also where `call` goes on with terms that a run makes.
 abbrev pub DepthReachesTicks : Type 0
 DepthReachesTicks = (v : View) (program : List PredTree) (q : QueryTree) → TicksBetween (program ++ q.helpers) → (n : ℕ) →
-    (d : ℕ) × CutWithoutDeep n (query_trace (whole v no_later (program ++ q.helpers)) program q d)
+    (d : ℕ) × CutWithoutDeep n (query_trace (whole v built_later (program ++ q.helpers)) program q d)
 
 -- so each query has its run
 abbrev pub EachQueryRuns : Type 0
 EachQueryRuns = (v : View) (program : List PredTree) (q : QueryTree) → TicksBetween (program ++ q.helpers) → (n : ℕ) →
-    (c : Cut Solution) × IsRunUnder (whole v no_later (program ++ q.helpers)) program q n c
+    (c : Cut Solution) × IsRunUnder (whole v built_later (program ++ q.helpers)) program q n c
 
 -- and each sound query
 abbrev pub SoundQueriesRun : Type 0
 SoundQueriesRun = (v : View) (program : List PredTree) (q : QueryTree) → IsSoundQuery program q → (n : ℕ) →
-    (c : Cut Solution) × IsRunUnder (whole v no_later (program ++ q.helpers)) program q n c
+    (c : Cut Solution) × IsRunUnder (whole v built_later (program ++ q.helpers)) program q n c
 
 -- ---- all names of the language
 
@@ -97,11 +98,13 @@ WholeKnowsWhatIsGiven = (v : View) (later : Later) (preds : List PredTree) (l : 
 -- A query that calls nothing but the tables' built-ins and what its program defines does the same with these built-ins alone as with all names of the language, whatever the view
 -- is and whatever later stages give.
 abbrev pub TabledIsWhole : Type 0
-TabledIsWhole = (v : View) (later : Later) (program : List PredTree) (q : QueryTree) → QueryCallsAmong is_predicate program q → NamesAreFree (program ++ q.helpers) → (d : ℕ) →
+TabledIsWhole = (v : View) (later : Later) (program : List PredTree) (q : QueryTree) → QueryCallsAmong is_predicate is_function program q → NamesAreFree (program ++ q.helpers) → (d : ℕ) →
     query_trace (whole v later (program ++ q.helpers)) program q d ≡ query_trace (tabled v) program q d
 
--- Where no plan of the log holds a variable, each answer of a sound query is a state, and its slots hold terms of variables
--- that were made. (No goal reads the log here.)
+-- ---- the states of a run
+
+-- Where no plan of the log holds a variable, each answer of a sound query has a state from which goals begin, which settling leaves as it is, and its slots hold terms of variables
+-- that were made. (No goal reads the log so far.)
 abbrev pub RunsKeepStates : Type 0
 RunsKeepStates = (v : View) (program : List PredTree) (q : QueryTree) → IsSoundQuery program q → PlansAreGround v → (depth : ℕ) (x : Solution) →
-    Contains (answers (query_trace (tabled v) program q depth)) x → IsState x.state × PlacesBelow (next x.state) x.slots
+    Contains (answers (query_trace (whole v built_later (program ++ q.helpers)) program q depth)) x → IsCalm x.state × PlacesBelow (next x.state) x.slots

@@ -7,7 +7,7 @@ use Rattle.pi_traces.specs.Trace.{Trace, then, one}
 use Rattle.pi_traces.specs.Depth.{Cut, cut, CutWithoutDeep}
 use Rattle.pi_meaning.specs.Shared.View.{query_view}
 use Rattle.pi_meaning.specs.CoreMeaning.Builtins.{Builtins}
-use Rattle.pi_meaning.specs.CoreMeaning.Instances.{no_later, whole}
+use Rattle.pi_meaning.specs.CoreMeaning.Instances.{built_later, whole}
 use Rattle.pi_core.specs.CoreTree.{PredTree, QueryTree}
 use Rattle.pi_meaning.specs.Shared.Level.{Level, Point}
 use Rattle.pi_meaning.specs.Shared.Raise.{within_limit}
@@ -47,6 +47,6 @@ pub record IsRunUnder (b : Builtins) (program : List PredTree) (q : QueryTree) (
   pub reaches : CutWithoutDeep n (query_trace b program q depth)
   pub is_cut : c ≡ cut n (query_trace b program q depth)
 
--- the same with all names of the language, where no later stage is there, under a log of planner calls, where none is being answered
+-- the same with all names of the language, with what is built of later stages, under a log of planner calls, where none is being answered
 abbrev pub IsRun : List PredTree → QueryTree → List LogEntry → ℕ → Cut Solution → Type 0
-IsRun program q log n c = IsRunUnder (whole (query_view log) no_later (program ++ q.helpers)) program q n c
+IsRun program q log n c = IsRunUnder (whole (query_view log) built_later (program ++ q.helpers)) program q n c

@@ -1,4 +1,4 @@
--- Programs of what the machine runs so far: rules and facts, and no action rules; predicates whose calls are counted, and quiet ones, with a Tick on each way round (`IsSound`); calls of what they define and of what the tables of built-ins have, `call`, and no others.
+-- Programs of what the machine runs so far: rules and facts, and no action rules; predicates whose calls are counted, and quiet ones, with a Tick on each way round (`IsSound`); calls of what they define, of what is built, of `call`, and no others.
 use Rattle.std.specs.Prelude.{◌≡◌, List, [], ◌∷◌, ◌++◌, ⊤}
 use Rattle.pi_core.specs.CoreTree.{ClauseTree, PredTree, QueryTree}
 use Rattle.pi_meaning.specs.CoreMeaning.Sound.{IsSoundQuery}

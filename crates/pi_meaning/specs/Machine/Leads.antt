@@ -6,7 +6,7 @@ use Rattle.pi_traces.specs.Trace.{Trace, end, note, End, Call, Deep, Note, Tick,
 use Rattle.pi_traces.specs.Depth.{Below, DepthOnlyAdds, Cut, Ended, Spent, with_events, CutWithoutDeep}
 use Rattle.pi_constraints.specs.State.{State}
 use Rattle.pi_meaning.specs.Shared.View.{View, Wanted, reading}
-use Rattle.pi_meaning.specs.CoreMeaning.Instances.{no_later, whole}
+use Rattle.pi_meaning.specs.CoreMeaning.Instances.{built_later, whole}
 use Rattle.pi_meaning.specs.Shared.Level.{Point}
 use Rattle.pi_meaning.specs.CoreMeaning.Rules.{level_at}
 use Rattle.pi_meaning.specs.CoreMeaning.Quiet.{TicksBetween}
@@ -50,7 +50,7 @@ pub record IsAtCall (v : View) (preds : List PredTree) (names : List NameSlot) (
   pub state : State
   pub follows : ℕ → State → Trace Point
   pub begins : (d : ℕ) → remaining v preds names d c ≡
-      then (around (whole v no_later preds) (level_at (whole v no_later preds) preds d) c.stack (then (reading v waiting wanted state) (follows d)) []) (answered_with names)
+      then (around (whole v built_later preds) (level_at (whole v built_later preds) preds d) c.stack (then (reading v waiting wanted state) (follows d)) []) (answered_with names)
 
 -- ---- laws
 
@@ -61,7 +61,7 @@ RemainingDoesMore = (v : View) (preds : List PredTree) (names : List NameSlot) (
 -- at the beginning the meaning of the query remains
 abbrev pub StartsWithTheMeaning : Type 0
 StartsWithTheMeaning = (v : View) (program : List PredTree) (q : QueryTree) (d : ℕ) →
-    remaining v (program ++ q.helpers) q.names d (start q) ≡ query_trace (whole v no_later (program ++ q.helpers)) program q d
+    remaining v (program ++ q.helpers) q.names d (start q) ≡ query_trace (whole v built_later (program ++ q.helpers)) program q d
 
 -- one run after another
 abbrev pub LeadsOn : Type 0
@@ -89,16 +89,16 @@ RunBeforeTickBegins = (v : View) (preds : List PredTree) (names : List NameSlot)
 abbrev pub EndedRunIsTheRun : Type 0
 EndedRunIsTheRun = (v : View) (program : List PredTree) (q : QueryTree) (events : List (Emitted Solution)) (c : Config) (e : End) (n : ℕ) →
     Leads v (program ++ q.helpers) q.names events (start q) c → IsAtEnd v (program ++ q.helpers) q.names e c → count_ticks events ≤ n →
-    IsRunUnder (whole v no_later (program ++ q.helpers)) program q n (record { events = events; stop = Ended e })
+    IsRunUnder (whole v built_later (program ++ q.helpers)) program q n (record { events = events; stop = Ended e })
 
 -- those of a run that is about to count a Tick are the query's run before that Tick,
 abbrev pub SpentRunIsTheRun : Type 0
 SpentRunIsTheRun = (v : View) (program : List PredTree) (q : QueryTree) (events : List (Emitted Solution)) (c : Config) →
     Leads v (program ++ q.helpers) q.names events (start q) c → IsAtTick v (program ++ q.helpers) q.names c →
-    IsRunUnder (whole v no_later (program ++ q.helpers)) program q (count_ticks events) (record { events = events; stop = Spent })
+    IsRunUnder (whole v built_later (program ++ q.helpers)) program q (count_ticks events) (record { events = events; stop = Spent })
 
 -- and those of any run begin the query's run before each Tick that comes later.
 abbrev pub RunIsAPrefix : Type 0
 RunIsAPrefix = (v : View) (program : List PredTree) (q : QueryTree) (events : List (Emitted Solution)) (c : Config) (n : ℕ) (run : Cut Solution) →
-    Leads v (program ++ q.helpers) q.names events (start q) c → IsRunUnder (whole v no_later (program ++ q.helpers)) program q (count_ticks events + n) run →
+    Leads v (program ++ q.helpers) q.names events (start q) c → IsRunUnder (whole v built_later (program ++ q.helpers)) program q (count_ticks events + n) run →
     (rest : Cut Solution) × (run ≡ with_events events rest)

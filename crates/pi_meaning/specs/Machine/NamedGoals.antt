@@ -1,11 +1,11 @@
 -- The goal by which a name with its number of arguments is called: it runs in slots of its own, the first of which have the arguments. `catch` is the catch of the terms'
--- calls and `call` is itself again, each behind a Tick; a predicate that is built in, or that the program defines and that isn't quiet, is called; any other name has no
+-- calls and `call` is itself again, each behind a Tick; a predicate that is built, or that the program defines and that isn't quiet, is called; any other name has no
 -- such goal. (The core language is own.)
 use Rattle.std.specs.Prelude.{ℕ, zero, suc, ◌||◌, false, cond, List, [], ◌∷◌, Option, Some, None, codes}
 use Rattle.pi_terms.specs.Tree.{Tree, var}
 use Rattle.pi_core.specs.GoalTree.{GoalTree, tick, call, seq, catch, goals_of}
 use Rattle.pi_core.specs.CoreTree.{PredTree, find_pred}
-use Rattle.pi_effects.specs.BuiltIns.{is_predicate}
+use Rattle.pi_meaning.specs.Shared.Effects.{is_effect_name}
 use Rattle.pi_meaning.specs.Shared.Names.{is_catch, is_call}
 use Rattle.pi_meaning.specs.CoreMeaning.Instances.{is_called_by_name}
 
@@ -29,4 +29,4 @@ unfoldable pub goal_by_name : List PredTree → List ℕ → ℕ → Option Goal
 goal_by_name preds name k =
     cond (is_catch name k) (Some catch_of_slots)
     (cond (is_call name k) (Some (call_of_slots k))
-    (cond (is_predicate name k || is_called_by_name (find_pred false name k preds)) (Some (call name (slots_from 0 k))) None))
+    (cond (is_effect_name name k || is_called_by_name (find_pred false name k preds)) (Some (call name (slots_from 0 k))) None))

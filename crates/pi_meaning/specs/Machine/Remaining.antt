@@ -10,7 +10,7 @@ use Rattle.pi_traces.specs.Trace.{Trace, end, note, Raise, Out, done, one, alt, 
 use Rattle.pi_traces.specs.Control.{negated, chosen, collected, counted, caught}
 use Rattle.pi_meaning.specs.Shared.View.{View}
 use Rattle.pi_meaning.specs.CoreMeaning.Builtins.{Builtins}
-use Rattle.pi_meaning.specs.CoreMeaning.Instances.{no_later, whole}
+use Rattle.pi_meaning.specs.CoreMeaning.Instances.{built_later, whole}
 use Rattle.pi_meaning.specs.Shared.Raise.{raised_with}
 use Rattle.pi_meaning.specs.Shared.Level.{Level, Applied, Point}
 use Rattle.pi_meaning.specs.CoreMeaning.Meaning.{Action, draining, with_slot, slot_value, copyable, with_list, meaning, meaning_of_all, meaning_of_any}
@@ -115,4 +115,4 @@ remaining_at given l names c = then (around given l c.stack (now_trace given l c
 
 -- what remains of a run of a program at a depth, under a view; answers tell these names
 abbrev pub remaining : View → List PredTree → List NameSlot → ℕ → Config → Trace Solution
-remaining v preds names d c = remaining_at (whole v no_later preds) (level_at (whole v no_later preds) preds d) names c
+remaining v preds names d c = remaining_at (whole v built_later preds) (level_at (whole v built_later preds) preds d) names c

@@ -11,9 +11,9 @@ use Rattle.pi_core.specs.GoalTree.{GoalTree, truth, fail, tick, call, apply, seq
 use Rattle.pi_core.specs.CoreTree.{ClauseTree, PredTree, QueryTree, find_pred, leaves_others}
 use Rattle.pi_traces.specs.Trace.{End, Done, Raise}
 use Rattle.pi_effects.specs.Effect.{Effect, Succeeds, Fails, Writes, Raises, FunctionEffect, Gives, Refuses}
-use Rattle.pi_effects.specs.BuiltIns.{built_in_predicate, built_in_function}
 use Rattle.pi_effects.specs.Exception.{type_error}
 use Rattle.pi_effects.specs.Items.{each_tree}
+use Rattle.pi_meaning.specs.Shared.Effects.{predicate_effect, value_effect}
 use Rattle.pi_meaning.specs.Shared.Names.{is_later_predicate, is_later_function, is_planner, is_resource, is_call}
 use Rattle.pi_meaning.specs.Shared.Calls.{Called as Named, called_by}
 use Rattle.pi_meaning.specs.CoreMeaning.Instances.{is_called_by_name}
@@ -165,14 +165,14 @@ abbrev pub written_now : Bool → List ℕ → GoalTrees → Places → State �
 written_now true text gs e s k = raising (atom (codes "output_in_plan"))
 written_now false text gs e s k = telling text gs e s k
 
--- after the effect of a built-in predicate, whose goal began in this state
+-- after the effect of a predicate, whose goal began in this state
 abbrev pub done_now : View → State → Effect → GoalTrees → Places → List Frame → Now
 done_now v before (Succeeds s) gs e k = settling before s gs e k
 done_now v before Fails gs e k = failed
 done_now v before (Writes text s) gs e k = written_now (is_body v.within) text gs e s k
 done_now v before (Raises ball) gs e k = raising ball
 
--- after that of a built-in function, whose value goes into a slot
+-- after that of a function, whose value goes into a slot
 abbrev pub given_now : FunctionEffect → ℕ → GoalTrees → Places → List Frame → Now
 given_now (Gives t s) into gs e k = going gs (slice_set e into (Some t)) s k
 given_now (Refuses ball) into gs e k = raising ball
@@ -191,7 +191,7 @@ predicate_step None all k es = silently (config failed es)
 predicate_step (Some pred) all k es =
     call_step pred.quiet (try_clauses pred.index pred.clauses all.trees (back_to [] all.state (returning all.slots k)) es)
 
--- what a later stage of the language gives isn't there
+-- what isn't built of later stages of the language isn't there
 abbrev pub later_step : Bool → List PredTree → NameCall → List Frame → List Entry → Outcome
 later_step true preds c k es = silently (config (raising (unknown_ball c.name (tree_count c.all.trees))) es)
 later_step false preds c k es = predicate_step (find_pred false c.name (tree_count c.all.trees) preds) c.all k es
@@ -234,7 +234,7 @@ first_now preds (tree t ts) s k = term_now preds t s k (called_by (followed (bin
 -- a goal by its name: `call`, or any other
 abbrev pub name_step : Bool → View → List PredTree → NameCall → Rest → Outcome
 name_step true v preds c r = deeper (config (first_now preds c.all.trees c.all.state (returning c.all.slots (behind r.goals r.frames))) r.stack)
-name_step false v preds c r = effect_step v (built_in_predicate c.name c.all.trees c.all.state) preds c r
+name_step false v preds c r = effect_step v (predicate_effect c.name c.all.trees c.all.state) preds c r
 
 -- a call of a function of the program, inside of a level
 abbrev pub function_step : Option PredTree → EvaluatedAll → ℕ → List Frame → List Entry → Outcome
@@ -248,7 +248,7 @@ abbrev pub resource_effect : Within → State → FunctionEffect
 resource_effect a_query s = Refuses (atom (codes "no_resource"))
 resource_effect (a_body n) s = Gives (int (pos n)) s
 
--- what a later stage of the language gives has no answer
+-- what isn't built of later stages of the language has no answer
 abbrev pub later_value : Bool → List PredTree → NameCall → ℕ → List Frame → List Entry → Outcome
 later_value true preds c into k es = silently (config failed es)
 later_value false preds c into k es = function_step (find_pred true c.name (tree_count c.all.trees) preds) c.all into k es
@@ -270,7 +270,7 @@ goal_step v preds (call name args) e s r =
     let all : EvaluatedAll = evaluated_all (trees_of args) e s in name_step (is_call name (tree_count all.trees)) v preds (name_call name all) r
 goal_step v preds (apply name args into) e s r =
     let all : EvaluatedAll = evaluated_all (trees_of args) e s in
-    value_step v (built_in_function name all.trees all.state) preds (name_call name all) into r
+    value_step v (value_effect name all.trees all.state) preds (name_call name all) into r
 goal_step v preds (seq hs) e s r = silently (config (going hs e s (behind r.goals r.frames)) r.stack)
 goal_step v preds (alternatives hs) e s r = silently (branch hs (back_to e s (behind r.goals r.frames)) r.stack)
 goal_step v preds (if_else test g other) e s r =

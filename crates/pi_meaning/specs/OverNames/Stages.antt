@@ -6,7 +6,7 @@ use Rattle.pi_constraints.specs.State.{State}
 use Rattle.pi_syntax.specs.ExpTree.{ExpTree}
 use Rattle.pi_traces.specs.Trace.{Trace, done}
 use Rattle.pi_meaning.specs.Shared.Given.{Later, Setting}
-use Rattle.pi_meaning.specs.CoreMeaning.Instances.{no_later}
+use Rattle.pi_meaning.specs.CoreMeaning.Instances.{built_later}
 use Rattle.pi_meaning.specs.OverNames.Place.{Place}
 
 -- an action rule that applies: its call, its number and its events, and the place behind its condition
@@ -18,9 +18,9 @@ pub record LaterStages : Type 0 where
   pub calls : Later
   pub agent : Agent
 
--- No later stage is there: what it will give is as unknown to `call` as a name that nothing has.
-abbrev pub no_stages : LaterStages
-no_stages = record { calls = no_later; agent = λ call i es p. done }
+-- What is built of them: goals of constraints and functions of domains. What the others will give is as unknown to `call` as a name that nothing has, and no rule is an agent.
+abbrev pub built_stages : LaterStages
+built_stages = record { calls = built_later; agent = λ call i es p. done }
 
 -- what calls by name are, and what action rules do
 pub record RulesSetting : Type 0 where

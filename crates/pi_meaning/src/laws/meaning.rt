@@ -39,17 +39,16 @@ pub fn runs_are_one()
     ensures deeper { DeeperRunsAreTheRun }
 {}
 
-/// Where no later stage is there, and Ticks stand between the calls of quiet predicates, there is a depth that reaches to each
-/// Tick of a query's trace,
-/// and so each query has its run.
+/// With what is built of later stages, where Ticks stand between the calls of quiet predicates, there is a depth that reaches to
+/// each Tick of a query's trace, and so each query has its run.
 pub fn queries_run()
     ensures reaches { DepthReachesTicks }
     ensures runs { EachQueryRuns }
     ensures sound { SoundQueriesRun }
 {}
 
-/// Where no plan of the log holds a variable, each answer of a sound query is a state, and its slots hold terms of variables
-/// that were made.
+/// Where no plan of the log holds a variable, each answer of a sound query has a state that settling leaves as it is, and its
+/// slots hold terms of variables that were made.
 pub fn runs_keep_states()
     ensures { RunsKeepStates }
 {}

@@ -1,9 +1,9 @@
 //! Laws of the paths of the core language.
-ghost use Rattle.pi_resume_spec.specs.LanguageLaws.{NothingIsLater, SoundIsCommitted, PathsAddNothing, GoalsAddNothing, AnswersHaveTheirPaths, RunsResume};
+ghost use Rattle.pi_resume_spec.specs.LanguageLaws.{BuiltIsLater, SoundIsCommitted, PathsAddNothing, GoalsAddNothing, AnswersHaveTheirPaths, RunsResume};
 
-/// What the laws ask of later stages is met where there are none, and what they ask of quiet predicates by sound programs.
+/// What the laws ask of later stages is met by what is built of them, and what they ask of quiet predicates by sound programs.
 pub fn what_is_asked_is_met()
-    ensures later { NothingIsLater }
+    ensures later { BuiltIsLater }
     ensures quiet { SoundIsCommitted }
 {}
 

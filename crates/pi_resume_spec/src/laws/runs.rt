@@ -1,5 +1,5 @@
 //! Laws of runs that tell paths, and of resumed runs, each cut just before a Tick.
-ghost use Rattle.pi_resume_spec.specs.RunLaws.{ToldPathsAreShort, ShortPathsAreTold, TheFirstLongPathEnds, SpentOnTheWay, CutBehindTheWay, BadExactlyAtTheEnd, EndsOnTheWay, MoreDepthLeavesCuts, NamesOnlyAdd, NothingLaterAdds, PathsDoMore, QueriesFollowMore, PathRunIsOne, DeeperPathRuns, ResumedRunIsOne, DeeperResumedRuns, ToldRunsResume, CutRunsResume, ToldPathsAreGood, SoundQueriesTellPaths, SoundQueriesAreResumed, SoundQueriesReach, QueriesBehindAreOne, LoadsOfTheWayCount, AskedOnTheWay};
+ghost use Rattle.pi_resume_spec.specs.RunLaws.{ToldPathsAreShort, ShortPathsAreTold, TheFirstLongPathEnds, SpentOnTheWay, CutBehindTheWay, BadExactlyAtTheEnd, EndsOnTheWay, MoreDepthLeavesCuts, NamesOnlyAdd, BuiltSearchesAdd, PathsDoMore, QueriesFollowMore, PathRunIsOne, DeeperPathRuns, ResumedRunIsOne, DeeperResumedRuns, ToldRunsResume, CutRunsResume, ToldPathsAreGood, SoundQueriesTellPaths, SoundQueriesAreResumed, SoundQueriesReach, QueriesBehindAreOne, LoadsOfTheWayCount, AskedOnTheWay};
 
 /// An exception stands in place of the first answer whose path is too long, and of all that is behind it; where there is none
 /// nothing is changed.
@@ -22,7 +22,7 @@ pub fn resumed_runs_are_cut<A>()
 /// More depth only adds to a query's ways and to what it does by a path.
 pub fn more_depth_follows_more()
     ensures names { NamesOnlyAdd }
-    ensures nothing { NothingLaterAdds }
+    ensures nothing { BuiltSearchesAdd }
     ensures ways { PathsDoMore }
     ensures follows { QueriesFollowMore }
 {}
@@ -49,7 +49,7 @@ pub fn resumed_work_is_counted()
     ensures asked { AskedOnTheWay }
 {}
 
-/// Where no later stage is there each sound query has its run, and from each path its resumed run, also as a query.
+/// With what is built of later stages each sound query has its run, and from each path its resumed run, also as a query.
 pub fn sound_queries_resume()
     ensures run { SoundQueriesTellPaths }
     ensures resumed { SoundQueriesAreResumed }

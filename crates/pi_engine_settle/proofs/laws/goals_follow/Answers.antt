@@ -1,4 +1,4 @@
-use Rattle.pi_engine_settle.proofs.FollowLemmas.{follows-itself, follows-then, follows-news, follows-unified, follows-within, follows-notin, follows-posted}
+use Rattle.pi_meaning.proofs.Shared.FollowLemmas.{follows-itself, follows-then, follows-news, follows-unified, follows-within, follows-notin, follows-posted}
 use Rattle.pi_engine_settle.proofs.laws.goals_follow.Goals as goal
 
 pub returns-clause-itself : goal.returns-clause-itself

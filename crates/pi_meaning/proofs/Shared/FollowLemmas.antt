@@ -7,9 +7,9 @@ use Rattle.pi_constraints.specs.declared.constraint.Constraint.{Constraint}
 use Rattle.pi_constraints.specs.declared.constraint.Item.{Item}
 use Rattle.pi_constraints.specs.declared.domain.Span.{Span}
 use Rattle.pi_constraints.specs.Domain.{has_value, values_of, common}
-use Rattle.pi_constraints.specs.State.{State, Variable, free, within, bound, binding, bindings, next, with_new, with_variable, with_binding, with_domain, with_constraint}
+use Rattle.pi_constraints.specs.State.{State, IsState, SpeaksBelow, Variable, free, within, bound, binding, bindings, next, with_new, with_variable, with_binding, with_domain, with_constraint}
 use Rattle.pi_constraints.specs.Evaluation.{with_new_variables}
-use Rattle.pi_constraints.specs.Unify.{Grows}
+use Rattle.pi_constraints.specs.Unify.{Grows, unified}
 use Rattle.pi_constraints.proofs.StateLemmas.{variable, held_is, changed_next}
 use Rattle.pi_constraints.proofs.KeepsLemmas.{news-next}
 use Rattle.pi_constraints.proofs.UnifyLemmas.{unified_grows}
@@ -21,20 +21,19 @@ use Rattle.pi_settling.specs.Choices.{with_values, narrowed_to}
 use Rattle.pi_settling.specs.Values.{all_but}
 use Rattle.pi_settling.specs.RightSide.{side_domain}
 use Rattle.pi_settling.specs.Confined.{with_default, confined_at, confined}
-use Rattle.pi_settling.specs.Within.{unless_bound, item_in, item_not_in, each_item}
-use Rattle.pi_settling.specs.Posted.{with_constraints, places_of_all, posted_in, effect_of_posting}
+use Rattle.pi_settling.specs.Within.{unless_bound, item_in, item_not_in, each_item, within_goal, notin_goal}
+use Rattle.pi_settling.specs.Posted.{with_constraints, places_of_all, posted_in, effect_of_posting, posting_goal}
 use Rattle.pi_settling.proofs.CalmItems.{news-at}
 use Rattle.pi_settling.proofs.CalmFollowed.{changed-keeps}
 use Rattle.pi_settling.proofs.CalmGoals.{Step, Went, went, only-is}
-use Rattle.pi_engine_settle.specs.Due.{Follows}
-use Rattle.pi_engine_settle.specs.DueLaws.{FollowsItself, FollowsThen, NewVariablesFollow, UnifiedFollows, WithinFollows, NotinFollows, PostedFollows}
+use Rattle.pi_meaning.specs.Shared.Follows.{Follows}
 
 -- ---- an order
 
-pub follows-itself : FollowsItself
+pub follows-itself : (s : State) → Follows s s
 follows-itself s = record { posted = []; constraints = sym (append-nil s.constraints); count = omega arith; bound = λ n t is. is }
 
-pub follows-then : FollowsThen
+pub follows-then : (s r q : State) → Follows s r → Follows r q → Follows s q
 follows-then s r q h g = record {
   posted = h.posted ++ g.posted;
   constraints = g.constraints ∙ (ap (λ (cs : List Constraint). cs ++ g.posted) h.constraints ∙ append_assoc s.constraints h.posted g.posted);
@@ -53,14 +52,14 @@ unfolding with_new_variables
 news-constraints zero s = refl
 news-constraints (suc k) s = news-constraints k (with_new s)
 
-pub follows-news : NewVariablesFollow
+pub follows-news : (k : ℕ) (s : State) → Follows s (with_new_variables k s)
 follows-news k s = follows-by s (with_new_variables k s) (news-constraints k s) (let many : next (with_new_variables k s) ≡ next s + k = news-next k s in omega (arith, many))
     (λ n t is. held_is (with_new_variables k s) n ∙ (ap binding (news-at k s n) ∙ (sym (held_is s n) ∙ is)))
 
 pub follows-grows : (s r : State) → Grows s r → Follows s r
 follows-grows s r g = follows-by s r g.constraints (omega (arith, g.as_many)) g.keeps
 
-pub follows-unified : UnifiedFollows
+pub follows-unified : (s r : State) (t u : Tree) → IsState s → SpeaksBelow (next s) t → SpeaksBelow (next s) u → unified s t u ≡ Some r → Follows s r
 follows-unified s r t u is bt bu same = follows-grows s r (unified_grows s r t u is bt bu same)
 
 -- ---- a variable that isn't bound
@@ -99,12 +98,12 @@ each-follows f step (x ∷ xs) s r same = by (λ m. each-follows f step xs m r) 
     by later None at left = absurd cc
     by later (Some m) at left = follows-then s m r (step s (root_item s x) m at) (later m left)
 
-pub follows-within : WithinFollows
+pub follows-within : (s r : State) (t u : Tree) → within_goal s t u ≡ Succeeds r → Follows s r
 follows-within s r t u same =
     let w : Went s r (side_domain true s u) item_in = went s r t (side_domain true s u) item_in same in
     each-follows (item_in w.domain) (in-follows w.domain) w.items s r w.left
 
-pub follows-notin : NotinFollows
+pub follows-notin : (s r : State) (t u : Tree) → notin_goal s t u ≡ Succeeds r → Follows s r
 follows-notin s r t u same =
     let w : Went s r (side_domain false s u) item_not_in = went s r t (side_domain false s u) item_not_in same in
     each-follows (item_not_in w.domain) (not-in-follows w.domain) w.items s r w.left
@@ -144,5 +143,5 @@ by-posting : (s r : State) (o : Result Posting Refusal) → effect_of_posting s 
 by-posting s r (Err e) same = absurd cc
 by-posting s r (Ok p) same = let here : posted_in s p ≡ r = cc in subst (Follows s) here (follows-posting s p)
 
-pub follows-posted : PostedFollows
+pub follows-posted : (s r : State) (t : Tree) → posting_goal s t ≡ Succeeds r → Follows s r
 follows-posted s r t same = by-posting s r (posting_in s t) same
