@@ -6,31 +6,34 @@ use Rattle.pi_syntax.specs.ProgramTree.{ProgramTree}
 use Rattle.pi_core.specs.CoreTree.{PredTree}
 use Rattle.pi_meaning.specs.Shared.View.{View}
 use Rattle.pi_meaning.specs.Shared.Level.{calls_at}
-use Rattle.pi_meaning.specs.CoreMeaning.Instances.{no_later, whole}
+use Rattle.pi_meaning.specs.CoreMeaning.Instances.{built_later, whole}
 use Rattle.pi_meaning.specs.CoreMeaning.Rules.{level_at}
 use Rattle.pi_meaning.specs.CoreMeaning.Defined.{ProgramCallsDefined, NamesAreFree}
-use Rattle.pi_meaning.specs.OverNames.Stages.{LaterStages, no_stages}
+use Rattle.pi_meaning.specs.OverNames.Stages.{LaterStages, built_stages}
 use Rattle.pi_meaning.specs.OverNames.Run.{program_level}
 use Rattle.pi_rewrite_spec.specs.Forms.{Knows}
 use Rattle.pi_rewrite_laws.specs.Levels.{SameCalls, SameLevels, GoesByCalls}
 use Rattle.pi_rewrite_laws.specs.Laws.{known_of, KeepsMeaning, ProgramsAreKept}
 use Rattle.pi_rewrite_spec.specs.Programs.{Naming, core_program}
 use Rattle.pi_rewrite_laws.proofs.AlikeLemmas.{calls-same}
-use Rattle.pi_rewrite_laws.proofs.RootNames.{no-later-keeps}
+use Rattle.pi_rewrite_laws.proofs.RootNames.{built-later-keeps}
 use Rattle.pi_rewrite_sound.specs.Built.{unbuilt_part}
-use Rattle.pi_rewrite_sound.specs.TermCalls.{ProgramAllows}
+use Rattle.pi_rewrite_sound.specs.TermCalls.{GivesBuilt, ProgramAllows}
 use Rattle.pi_rewrite_sound.specs.Within.{IsWithin}
 use Rattle.pi_rewrite_sound.specs.LaterLaws.{LevelsAreTheSame}
 use Rattle.pi_rewrite_sound.specs.Laws.{AreNames, LoweredProgramsAreSound, LoweredProgramsAreClosed, LoweredProgramsArePlain}
 use Rattle.pi_rewrite.specs.Laws.{CallsTheSame, IsLoweredProgram}
 
--- what is unknown asks for no call
-pub goes-by-nothing : (known : Knows) → GoesByCalls known no_stages.calls
+-- what is built asks for no call
+pub goes-by-nothing : (known : Knows) → GoesByCalls known built_stages.calls
 goes-by-nothing known v l m same name ts s = refl
 
+pub built-gives : GivesBuilt built_stages.calls
+built-gives = record { goals = λ v l name ts s is. refl; functions = λ name ts s is. refl }
+
 levels-allowed : LevelsAreTheSame → (program : ProgramTree) → unbuilt_part program ≡ None → (v : View) (later : LaterStages) → ProgramAllows later program → (d : ℕ) →
-    program_level v no_stages program d ≡ program_level v later program d
-levels-allowed levels program built v later (inl none) d = levels program built none v no_stages later d
+    program_level v built_stages program d ≡ program_level v later program d
+levels-allowed levels program built v later (inl (none, gives)) d = levels program built none v built_stages later built-gives gives d
 levels-allowed levels program built v later (inr is) d = ap (λ (stages : LaterStages). program_level v stages program d) (sym is)
 
 calls-kept : LevelsAreTheSame → (program : ProgramTree) → unbuilt_part program ≡ None → (preds : List PredTree) → KeepsMeaning program preds → CallsTheSame program preds
@@ -39,12 +42,12 @@ calls-kept levels program built preds kept = record {
   functions = λ v later allows d name ts s known. (at v d).applied name ts s known ∙ ap (λ l. (calls_at l).applied name ts s) (levels-allowed levels program built v later allows d);
 }
   where
-    same : (v : View) (d : ℕ) → SameLevels (known_of program) (level_at (whole v no_later preds) preds d) (program_level v no_stages program d)
-    same v d = subst (λ (ps : List PredTree). SameLevels (known_of program) (level_at (whole v no_later ps) ps d) (program_level v no_stages program d)) (append-nil preds)
-        (kept.calls [] tt v no_stages (goes-by-nothing (known_of program)) no-later-keeps d)
+    same : (v : View) (d : ℕ) → SameLevels (known_of program) (level_at (whole v built_later preds) preds d) (program_level v built_stages program d)
+    same v d = subst (λ (ps : List PredTree). SameLevels (known_of program) (level_at (whole v built_later ps) ps d) (program_level v built_stages program d)) (append-nil preds)
+        (kept.calls [] tt v built_stages (goes-by-nothing (known_of program)) built-later-keeps d)
 
-    at : (v : View) (d : ℕ) → SameCalls (known_of program) (calls_at (level_at (whole v no_later preds) preds d)) (calls_at (program_level v no_stages program d))
-    at v d = calls-same (known_of program) (level_at (whole v no_later preds) preds d) (program_level v no_stages program d) (same v d)
+    at : (v : View) (d : ℕ) → SameCalls (known_of program) (calls_at (level_at (whole v built_later preds) preds d)) (calls_at (program_level v built_stages program d))
+    at v d = calls-same (known_of program) (level_at (whole v built_later preds) preds d) (program_level v built_stages program d) (same v d)
 
 pub program-kept : ProgramsAreKept → LevelsAreTheSame → LoweredProgramsAreSound → LoweredProgramsAreClosed → LoweredProgramsArePlain → (program : ProgramTree) → IsWithin program → unbuilt_part program ≡ None →
     (called : Naming) → AreNames program called → IsLoweredProgram program (core_program called program)

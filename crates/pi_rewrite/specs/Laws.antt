@@ -1,5 +1,5 @@
--- What lowering keeps. A core program keeps the meaning of a program, and a query that of a goal: both are sound, and what they do where no later stage of the language is there is what is
--- done over names, with the prelude in front, whatever later stages give (`Allows` says where one of them calls terms). What they are stands in `Programs` of `pi_rewrite_spec`.
+-- What lowering keeps. A core program keeps the meaning of a program, and a query that of a goal: both are sound, and what they do with what is built of later stages of the language is
+-- what is done over names, with the prelude in front, whatever the other stages give (`Allows` says where one of them calls terms). What they are stands in `Programs` of `pi_rewrite_spec`.
 use Rattle.std.specs.Prelude.{◌≡◌, ℕ, true, List, ◌++◌, None, All, IsTrue}
 use Rattle.pi_terms.specs.Tree.{Trees, tree_count}
 use Rattle.pi_constraints.specs.State.{State}
@@ -9,7 +9,7 @@ use Rattle.pi_core.specs.CoreTree.{PredTree, QueryTree}
 use Rattle.pi_traces.specs.Depth.{Cut}
 use Rattle.pi_meaning.specs.Shared.View.{View}
 use Rattle.pi_meaning.specs.Shared.Level.{calls_at}
-use Rattle.pi_meaning.specs.CoreMeaning.Instances.{no_later, whole}
+use Rattle.pi_meaning.specs.CoreMeaning.Instances.{built_later, whole}
 use Rattle.pi_meaning.specs.CoreMeaning.Rules.{level_at}
 use Rattle.pi_meaning.specs.CoreMeaning.Run.{Solution, IsRunUnder}
 use Rattle.pi_meaning.specs.CoreMeaning.Sound.{IsSound, IsSoundQuery}
@@ -33,9 +33,9 @@ use Rattle.pi_rewrite_sound.specs.Laws.{IsPlain, AreNames}
 -- state: the same Ticks, loads and outputs, the same end, and in each answer the same value and the same state, so that variables have the same numbers.
 pub record CallsTheSame (program : ProgramTree) (preds : List PredTree) : Type 0 where
   pub predicates : (v : View) (later : LaterStages) → ProgramAllows later program → (d : ℕ) (name : List ℕ) (ts : Trees) (s : State) → IsTrue ((known_of program).predicate name (tree_count ts)) →
-      (calls_at (level_at (whole v no_later preds) preds d)).called name ts s ≡ (calls_at (program_level v later program d)).called name ts s
+      (calls_at (level_at (whole v built_later preds) preds d)).called name ts s ≡ (calls_at (program_level v later program d)).called name ts s
   pub functions : (v : View) (later : LaterStages) → ProgramAllows later program → (d : ℕ) (name : List ℕ) (ts : Trees) (s : State) → IsTrue ((known_of program).function name (tree_count ts)) →
-      (calls_at (level_at (whole v no_later preds) preds d)).applied name ts s ≡ (calls_at (program_level v later program d)).applied name ts s
+      (calls_at (level_at (whole v built_later preds) preds d)).applied name ts s ≡ (calls_at (program_level v later program d)).applied name ts s
 
 -- What a program is lowered to, whatever names of their own the helpers of its loops have.
 pub record IsCoreProgram (program : ProgramTree) (preds : List PredTree) : Type 0 where
@@ -60,11 +60,11 @@ pub record IsLoweredProgram (program : ProgramTree) (preds : List PredTree) : Ty
 -- each answer tells the same values by the same names, and has the same state.
 abbrev pub MeansTheSame : ProgramTree → ExpTree → List PredTree → QueryTree → Type 0
 MeansTheSame program goal preds q = (v : View) (later : LaterStages) → Allows later program goal → (d : ℕ) (s : State) →
-    told_trace (solution_told q.names) (query_from (whole v no_later (preds ++ q.helpers)) preds q d s) ≡ told_trace (place_told (answer_names goal)) (names_from v later program goal d (at_state beginning s))
+    told_trace (solution_told q.names) (query_from (whole v built_later (preds ++ q.helpers)) preds q d s) ≡ told_trace (place_told (answer_names goal)) (names_from v later program goal d (at_state beginning s))
 
 -- the runs of a query are those of a goal over its names
 abbrev pub RunsTheSame : ProgramTree → ExpTree → List PredTree → QueryTree → Type 0
-RunsTheSame program goal preds q = (v : View) (later : LaterStages) → Allows later program goal → (n : ℕ) (c : Cut Solution) → IsRunUnder (whole v no_later (preds ++ q.helpers)) preds q n c →
+RunsTheSame program goal preds q = (v : View) (later : LaterStages) → Allows later program goal → (n : ℕ) (c : Cut Solution) → IsRunUnder (whole v built_later (preds ++ q.helpers)) preds q n c →
     IsNamesRun v later program goal n (told_cut (solution_told q.names) c)
 
 -- a query that keeps the meaning of a goal that is asked of a program; it calls nothing else either, and nothing of both has a name that the language gives

@@ -1,11 +1,13 @@
 -- Calls that are built, and known, are of the forms that are lowered.
-use Rattle.std.proofs.Common.{◌≡◌, inl, inr, ℕ, suc, Bool, true, false, cond, List, [], refl, sym, subst, arith}
+use Rattle.std.proofs.Common.{◌≡◌, inl, inr, ℕ, suc, Bool, true, false, cond, List, [], refl, sym, ◌∙◌, subst, arith}
 use Rattle.std.specs.Prelude.{◌==◌, ◌&&◌, ◌||◌, Option, Some, None, IsTrue, codes, ⊤}
 use Rattle.std.specs.Str.{bytes_eq}
-use Rattle.std.proofs.lemmas.Bool.{and_parts, or_cases, eqb-true}
-use Rattle.pi_effects.specs.BuiltIns.{is_predicate, is_function}
+use Rattle.std.proofs.lemmas.Bool.{false≢true, and_parts, or_cases, eqb-true}
+use Rattle.pi_effects.specs.BuiltIns.{is_predicate}
 use Rattle.pi_syntax.specs.Names.{kind_of}
-use Rattle.pi_meaning.specs.Shared.Names.{is_catch, is_call, is_later_predicate, is_given_predicate, is_later_function, is_resource, is_given_function}
+use Rattle.pi_meaning.specs.Shared.Effects.{is_effect_name, is_value_name}
+use Rattle.pi_meaning.specs.Shared.Names.{is_catch, is_call, is_later_predicate, is_given_predicate, is_given_function}
+use Rattle.pi_meaning.proofs.Shared.EffectNames.{effect-given, value-given}
 use Rattle.pi_syntax.specs.ExpTree.{ExpTree, var, ExpTrees, no_exps, exp}
 use Rattle.pi_syntax.specs.Signature.{exp_count}
 use Rattle.pi_meaning.specs.OverNames.Texts.{iterated}
@@ -14,10 +16,10 @@ use Rattle.pi_meaning.proofs.Shared.TableLemmas.{same-name}
 use Rattle.pi_prog_clauses.specs.Calls.{Named, named, goal_calls, is_known}
 use Rattle.pi_prog_clauses.specs.Operators.{is_goal_sign, is_membership, is_reified}
 use Rattle.pi_prog_clauses.specs.Places.{asked, expression}
-use Rattle.pi_rewrite_sound.specs.Built.{is_own, is_prelude_kind, is_built_predicate, is_built_function, is_built_value_call, is_built_form, is_built_atom, is_variable, is_assigned}
+use Rattle.pi_rewrite_sound.specs.Built.{is_own, is_prelude_kind, is_built_predicate, is_boolean_sign, is_built_function, is_built_value_call, is_built_form, is_built_atom, is_variable, is_assigned}
 use Rattle.pi_rewrite_spec.specs.Forms.{Knows, IsFunctionCall, IsPredicateCall, IsAtomGoal, IsAssigned}
 use Rattle.pi_rewrite_sound.proofs.KnownCalls.{AreKnown, goal-known}
-use Rattle.pi_rewrite_sound.proofs.PlainNames.{is_no_expression, has_places, own-form, term-plain, built-plain, function-built-plain}
+use Rattle.pi_rewrite_sound.proofs.PlainNames.{is_no_expression, has_places, own-form, term-plain, sign-no_expression, function-built-plain}
 use Rattle.pi_rewrite_sound.proofs.CallPlaces.{place_behind}
 
 -- What is there has each predicate and each function that a call of a name of its own finds defined, and the prelude's.
@@ -38,8 +40,8 @@ or-second false b h = h
 
 pub predicate-there : (defined : List Named) (known : Knows) → Has defined known → (name : List ℕ) (k : ℕ) → is_built_predicate name k ≡ true → AreKnown defined (goal_calls name k) →
     IsTrue (is_given_predicate name k || known.predicate name k)
-predicate-there defined known has name k built calls = elim (or_cases (is_predicate name k) (is_own name k || is_prelude_kind (kind_of name k)) built) [
-  | inl given ↦ or-first (is_given_predicate name k) (known.predicate name k) (or-second (is_call name k) (is_predicate name k || is_later_predicate name k) (or-first (is_predicate name k) (is_later_predicate name k) given))
+predicate-there defined known has name k built calls = elim (or_cases (is_effect_name name k) (is_own name k || is_prelude_kind (kind_of name k)) built) [
+  | inl given ↦ or-first (is_given_predicate name k) (known.predicate name k) (or-second (is_call name k) (is_predicate name k || is_later_predicate name k) (effect-given name k given))
   | inr rest ↦ or-second (is_given_predicate name k) (known.predicate name k) (elim (or_cases (is_own name k) (is_prelude_kind (kind_of name k)) rest) [
     | inl own ↦ has.predicate name k own (goal-known defined name k (own-form name k own) calls)
     | inr written ↦ has.prelude name k written
@@ -47,10 +49,13 @@ predicate-there defined known has name k built calls = elim (or_cases (is_predic
 ]
 
 function-there : (defined : List Named) (known : Knows) → Has defined known → (name : List ℕ) (k : ℕ) → is_built_function name k ≡ true → is_known defined (named name k true) ≡ true →
-    IsTrue (is_given_function name k || known.function name k)
-function-there defined known has name k built call = elim (or_cases (is_function name k) (is_own name k) built) [
-  | inl given ↦ or-first (is_given_function name k) (known.function name k) (or-first (is_function name k) (is_resource name k || is_later_function name k) given)
-  | inr own ↦ or-second (is_given_function name k) (known.function name k) (has.function name k own call)
+    is_no_expression name k ≡ false → IsTrue (is_given_function name k || known.function name k)
+function-there defined known has name k built call expression-call = elim (or_cases (is_value_name name k) (is_own name k || is_boolean_sign name k) built) [
+  | inl given ↦ or-first (is_given_function name k) (known.function name k) (value-given name k given)
+  | inr rest ↦ elim (or_cases (is_own name k) (is_boolean_sign name k) rest) [
+    | inl own ↦ or-second (is_given_function name k) (known.function name k) (has.function name k own call)
+    | inr sign ↦ absurd (false≢true (sym expression-call ∙ sign-no_expression name k sign))
+  ]
 ]
 
 -- ---- places of the forms
@@ -133,7 +138,7 @@ function-of defined known has name k exps value goal Exps Value Goal arguments c
     go false true other is h = arguments.inner 0 (count-place name k is) h
     go false false find count h =
         let both = and_parts exps (is_built_function name k) h in
-        (arguments.all (function-built-plain name k both.1 expression-call) both.0, function-there defined known has name k both.1 call)
+        (arguments.all (function-built-plain name k both.1 expression-call) both.0, function-there defined known has name k both.1 call expression-call)
 
 -- ---- predicates
 
@@ -161,16 +166,15 @@ unfolding form_of
 form-tested name k = tested (k == 1 && bytes_eq name (codes "not")) (k == 1 && bytes_eq name (codes "once")) (k == 2 && bytes_eq name (codes ":=")) (is_catch name k) (is_call name k) (k == 2 && bytes_eq name (codes "in"))
 
 pub predicate-of : (defined : List Named) (known : Knows) → Has defined known → (name : List ℕ) (k : ℕ) (exps : Bool) (value goal : ℕ → Bool) (Exps : List Reading → Type 0) (Value Goal : ℕ → Type 0) →
-    Arguments name k exps value goal (Exps []) Value Goal → AreKnown defined (goal_calls name k) → is_built_form (form_of name k) name k exps value goal ≡ true →
+    Arguments name k exps value goal (Exps []) Value Goal → (is_built_predicate name k ≡ true → exps ≡ true → Exps (readings name k)) → AreKnown defined (goal_calls name k) → is_built_form (form_of name k) name k exps value goal ≡ true →
     IsPredicateCall known (form_of name k) name k (Exps (readings name k)) Value Goal
-predicate-of defined known has name k exps value goal Exps Value Goal arguments calls built = go (form_of name k) (form-tested name k) built
+predicate-of defined known has name k exps value goal Exps Value Goal arguments read calls built = go (form_of name k) (form-tested name k) built
   where
     go : (form : Option Form) → IsTested form (k == 1 && bytes_eq name (codes "not")) (k == 1 && bytes_eq name (codes "once")) (k == 2 && bytes_eq name (codes ":=")) (is_catch name k) (is_call name k) → is_built_form form name k exps value goal ≡ true →
         IsPredicateCall known form name k (Exps (readings name k)) Value Goal
     go None is h =
         let both = and_parts exps (is_built_predicate name k) h in
-        let plain = built-plain name k both.1 in
-        (subst Exps (sym plain.1) (arguments.all plain.0 both.0), predicate-there defined known has name k both.1 calls)
+        (read both.1 both.0, predicate-there defined known has name k both.1 calls)
     go (Some Form.negation) is h = arguments.inner 0 (negation-place name k is) h
     go (Some Form.once) is h = arguments.inner 0 (once-place name k is) h
     go (Some Form.assignment) is h = arguments.one 1 (assigned-place name k is) h

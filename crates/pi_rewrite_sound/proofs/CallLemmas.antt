@@ -1,4 +1,4 @@
--- Calls of names that are built do the same under settings that differ in what later stages give alone.
+-- Calls of names that are built do the same under settings that differ in what later stages give alone, and there not in what is built.
 use Rattle.std.specs.Prelude.{◌≡◌, ℕ, suc, Bool, true, false, cond, List, Option, Some, None, option_map, is_some, refl}
 use Rattle.std.specs.Option.{option_or}
 use Rattle.std.proofs.Common.{sym, ap, subst, ◌∙◌}
@@ -27,6 +27,7 @@ use Rattle.pi_meaning.specs.OverNames.Control.{Value, Values, nothing, in_front,
 use Rattle.pi_meaning.specs.OverNames.Forms.{Reading, first_reading, later_readings}
 use Rattle.pi_meaning.specs.OverNames.Goals.{value_of, values_of}
 use Rattle.pi_rewrite_sound.specs.Built.{is_built_predicate, is_built_function}
+use Rattle.pi_rewrite_sound.specs.TermCalls.{GivesBuilt}
 use Rattle.pi_rewrite_sound.proofs.BuiltNames.{predicate-by, function-by}
 
 -- settings under which calls of names that are built are the same
@@ -47,35 +48,38 @@ effect-first : {X Y : Type 0} (f : X → Y) (o : Option X) (x y : Option Y) → 
 effect-first f None x y h = absurd cc
 effect-first f (Some e) x y h = refl
 
-predicate-alike : (v : View) (defines : List ℕ → ℕ → Bool) (x y : Later) (l : Level) (name : List ℕ) (ts : Trees) (s : State) → is_built_predicate name (tree_count ts) ≡ true →
+predicate-alike : (v : View) (defines : List ℕ → ℕ → Bool) (x y : Later) → GivesBuilt x → GivesBuilt y → (l : Level) (name : List ℕ) (ts : Trees) (s : State) → is_built_predicate name (tree_count ts) ≡ true →
     predicate_called (under v defines x) l name ts s ≡ predicate_called (under v defines y) l name ts s
 unfolding predicate_called predicate_given
-predicate-alike v defines x y l name ts s built =
+predicate-alike v defines x y a b l name ts s built =
     let k : ℕ = tree_count ts in
     let o : Option Effect = built_in_predicate name ts s in
     let same : (option_or (option_map (settled_effect v s) o) (given_later (under v defines x) l name ts s)) ≡ option_or (option_map (settled_effect v s) o) (given_later (under v defines y) l name ts s) =
     predicate-by name k built
     (λ listed. effect-first (settled_effect v s) o _ _ (predicates-listed name ts s ∙ listed))
+    (λ posts. ap (λ t. option_or (option_map (settled_effect v s) o) (cond (is_later_predicate name k) (Some t) None)) (a.goals v l name ts s posts ∙ sym (b.goals v l name ts s posts)))
     (λ other. ap (option_or (option_map (settled_effect v s) o)) (not-asked (is_later_predicate name k) (x.predicate v l name ts s) (y.predicate v l name ts s) other)) in
     λ i. or_called (same i) l name ts s
 
-function-alike : (v : View) (defines : List ℕ → ℕ → Bool) (x y : Later) (l : Level) (name : List ℕ) (ts : Trees) (s : State) → is_built_function name (tree_count ts) ≡ true →
+function-alike : (v : View) (defines : List ℕ → ℕ → Bool) (x y : Later) → GivesBuilt x → GivesBuilt y → (l : Level) (name : List ℕ) (ts : Trees) (s : State) → is_built_function name (tree_count ts) ≡ true →
     function_called (under v defines x) l name ts s ≡ function_called (under v defines y) l name ts s
 unfolding function_called function_given
-function-alike v defines x y l name ts s built =
+function-alike v defines x y a b l name ts s built =
     let k : ℕ = tree_count ts in
     let o : Option FunctionEffect = built_in_function name ts s in
     let same : (option_or (option_map function_trace o) (function_later (under v defines x) name ts s)) ≡ option_or (option_map function_trace o) (function_later (under v defines y) name ts s) =
     function-by name k built
     (λ listed. effect-first function_trace o _ _ (functions-listed name ts s ∙ listed))
+    (λ domain. ap (λ t. option_or (option_map function_trace o) (cond (is_resource name k) (Some (resource_left v.within s)) (cond (is_later_function name k) (Some t) None)))
+    (a.functions name ts s domain ∙ sym (b.functions name ts s domain)))
     (λ other. ap (λ later. option_or (option_map function_trace o) (cond (is_resource name k) (Some (resource_left v.within s)) later))
     (not-asked (is_later_function name k) (x.function name ts s) (y.function name ts s) other)) in
     λ i. or_applied (same i) l name ts s
 
-pub stages-alike : (v : View) (defines : List ℕ → ℕ → Bool) (x y : Later) → CallsAlike (under v defines x) (under v defines y)
-stages-alike v defines x y = record {
-  predicates = λ l name ts s built. predicate-alike v defines x y l name ts s built;
-  functions = λ l name ts s built. function-alike v defines x y l name ts s built;
+pub stages-alike : (v : View) (defines : List ℕ → ℕ → Bool) (x y : Later) → GivesBuilt x → GivesBuilt y → CallsAlike (under v defines x) (under v defines y)
+stages-alike v defines x y a b = record {
+  predicates = λ l name ts s built. predicate-alike v defines x y a b l name ts s built;
+  functions = λ l name ts s built. function-alike v defines x y a b l name ts s built;
 }
 
 -- ---- how many values arguments come to

@@ -107,6 +107,12 @@ below-asked e = below-test asked (record { inside_is = refl; quoted_is = refl; b
 pub below-iterator : (e : ExpTree) → below iterator e ≡ below (goal false) e
 below-iterator e = below-test iterator (record { inside_is = refl; quoted_is = refl; body_is = refl; argument_is = λ name k i. refl }) e
 
+-- so between the signs of constraints, as below an expression
+pub below-operand : (e : ExpTree) → below operand e ≡ below expression e
+below-operand e =
+    below-test operand (record { inside_is = refl; quoted_is = refl; body_is = refl; argument_is = λ name k i. refl }) e
+    ∙ sym (below-test expression (record { inside_is = refl; quoted_is = refl; body_is = refl; argument_is = λ name k i. refl }) e)
+
 pub iterator-arguments : (name : List ℕ) (k from : ℕ) (es : ExpTrees) → arguments_placed iterator name k from es ≡ arguments_placed expression name k from es
 iterator-arguments name k from es = arguments-below iterator (λ n j i. refl) name k from es
 

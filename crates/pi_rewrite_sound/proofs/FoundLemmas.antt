@@ -9,7 +9,7 @@ use Rattle.std.proofs.lemmas.List.Elements.{All-head, All-tail, All-append}
 use Rattle.std.proofs.lemmas.List.Kept.{AllPairs-cons}
 use Rattle.pi_terms.specs.Order.{name_order}
 use Rattle.pi_core.specs.CoreTree.{PredTree, is_pred, find_pred}
-use Rattle.pi_effects.specs.BuiltIns.{is_function}
+use Rattle.pi_meaning.specs.Shared.Effects.{is_value_name}
 use Rattle.pi_meaning.specs.CoreMeaning.Defined.{is_machine_predicate}
 use Rattle.pi_rewrite_spec.specs.Forms.{Knows}
 use Rattle.pi_rewrite_laws.specs.Within.{AreQuiet}
@@ -21,7 +21,7 @@ use Rattle.pi_rewrite_sound.proofs.GoodHelpers.{Has}
 
 -- what a core program has, and what the tables have
 abbrev pub found_in : List PredTree → Knows
-found_in preds = record { predicate = λ name k. is_some (find_pred false name k preds) || is_machine_predicate name k; function = λ name k. is_some (find_pred true name k preds) || is_function name k }
+found_in preds = record { predicate = λ name k. is_some (find_pred false name k preds) || is_machine_predicate name k; function = λ name k. is_some (find_pred true name k preds) || is_value_name name k }
 
 -- ---- one is found by its name
 

@@ -5,7 +5,7 @@ use Rattle.std.proofs.lemmas.List.{append-nil}
 use Rattle.pi_terms.specs.PatternTree.{HaveSlot}
 use Rattle.pi_core.specs.GoalTree.{truth}
 use Rattle.pi_core.specs.CoreTree.{ClauseTree, PredTree}
-use Rattle.pi_effects.specs.BuiltIns.{is_function}
+use Rattle.pi_meaning.specs.Shared.Effects.{is_value_name}
 use Rattle.pi_meaning.specs.CoreMeaning.Quiet.{Callee, Reaches}
 use Rattle.pi_meaning.specs.CoreMeaning.Sound.{pattern_count}
 use Rattle.pi_meaning.specs.CoreMeaning.Defined.{is_machine_predicate}
@@ -19,7 +19,7 @@ pub record Allows (known may : Knows) : Type 0 where
   pub predicates : (name : List ℕ) (k : ℕ) → IsTrue (known.predicate name k) → IsTrue (may.predicate name k)
   pub machine : (name : List ℕ) (k : ℕ) → IsTrue (is_machine_predicate name k) → IsTrue (may.predicate name k)
   pub functions : (name : List ℕ) (k : ℕ) → IsTrue (known.function name k) → IsTrue (may.function name k)
-  pub tables : (name : List ℕ) (k : ℕ) → IsTrue (is_function name k) → IsTrue (may.function name k)
+  pub tables : (name : List ℕ) (k : ℕ) → IsTrue (is_value_name name k) → IsTrue (may.function name k)
 
 -- and each of these
 abbrev pub Has : Knows → List PredTree → Type 0

@@ -5,7 +5,7 @@ use Rattle.std.proofs.lemmas.List.{append-nil}
 use Rattle.pi_terms.specs.Tree.{Tree, Trees, no_trees, trees_of, comp}
 use Rattle.pi_constraints.specs.State.{SpeaksBelow}
 use Rattle.pi_constraints.proofs.KeepsLemmas.{TreesBelow}
-use Rattle.pi_effects.specs.BuiltIns.{is_function}
+use Rattle.pi_meaning.specs.Shared.Effects.{is_value_name}
 use Rattle.pi_effects.specs.Indexing.{index_name}
 use Rattle.pi_effects.specs.Inner.{itself_name}
 use Rattle.pi_syntax.specs.ExpTree.{ExpTree}
@@ -162,7 +162,7 @@ good-applied {known} {ps} {vs} name k are long there = record {
 }
 
 -- one that the tables have
-pub good-table : {known : Knows} {ps : List PredTree} {vs : SlotNames → SlotValues} (name : List ℕ) (k : ℕ) → GoodValues known ps vs → ((ns : SlotNames) → length (vs ns).trees ≡ k) → IsTrue (is_function name k) → GoodValue known ps (λ ns. applied name (vs ns))
+pub good-table : {known : Knows} {ps : List PredTree} {vs : SlotNames → SlotValues} (name : List ℕ) (k : ℕ) → GoodValues known ps vs → ((ns : SlotNames) → length (vs ns).trees ≡ k) → IsTrue (is_value_name name k) → GoodValue known ps (λ ns. applied name (vs ns))
 good-table name k are long there = good-applied name k are long (λ may allows. allows.tables name k there)
 
 -- ---- a value that goes into a slot

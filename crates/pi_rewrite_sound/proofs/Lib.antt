@@ -19,6 +19,7 @@ pub mod FoundLemmas
 mod FreeHeads
 pub mod GivenNames
 pub mod GoalLemmas
+pub mod GoalNames
 pub mod GoodCalls
 pub mod GoodGoals
 pub mod GoodHelpers
@@ -45,6 +46,7 @@ mod PreludeParts
 pub mod ProgramLemmas
 pub mod QueryLemmas
 pub mod RankLemmas
+mod ReadPlaces
 pub mod RuleLemmas
 pub mod RunLemmas
 mod ShownKeys

@@ -1,4 +1,4 @@
--- Names that may be called where what stands is built, against those that the language gives: of these they are just what the tables of built-ins have.
+-- Names that may be called where what stands is built, against those that the language gives: of these they are just what is built.
 use Rattle.std.proofs.Common.{◌≡◌, ◌⊎◌, inl, inr, ℕ, Bool, true, false, List, [], ◌∷◌, refl, sym, subst}
 use Rattle.std.proofs.lemmas.Bool.{false≢true, and_parts, or_left, eqb-true}
 use Rattle.std.specs.Prelude.{not, codes, IsTrue, ◌==◌, ◌||◌}
@@ -10,11 +10,15 @@ use Rattle.pi_effects.specs.Kinds.{kind_tests}
 use Rattle.pi_effects.specs.Texts.{writing_predicates}
 use Rattle.pi_effects.specs.BuiltIns.{tests, other_predicates, is_predicate, is_function}
 use Rattle.pi_syntax.specs.Tokens.{is_one_of}
+use Rattle.pi_settling.specs.DomainValues.{is_domain_function}
+use Rattle.pi_settling.specs.Goals.{constraint_goals, is_constraint_goal}
+use Rattle.pi_meaning.specs.Shared.Effects.{is_effect_name, is_value_name}
 use Rattle.pi_meaning.specs.Shared.Names.{later_predicates, is_later_predicate, is_later_function, is_resource, is_call, is_planner, is_given_predicate, is_given_function}
 use Rattle.pi_meaning.specs.CoreMeaning.Defined.{is_machine_predicate}
 use Rattle.pi_syntax.specs.Names.{function_rows, predicate_rows, prelude_rows, kind_of}
 use Rattle.pi_meaning.proofs.Shared.TableLemmas.{same-name, one-of, each-spelled, spellings-hold, each-signed, signatures-hold}
-use Rattle.pi_rewrite_sound.specs.Built.{is_own, is_prelude_kind, is_built_predicate, is_built_function}
+use Rattle.pi_meaning.proofs.Shared.EffectNames.{effect-given, value-given}
+use Rattle.pi_rewrite_sound.specs.Built.{is_own, is_prelude_kind, is_built_predicate, is_boolean_sign, is_built_function}
 
 -- ---- predicates
 
@@ -33,19 +37,22 @@ later-theirs name k is = signatures-hold (λ n j. is_theirs n j) later_predicate
 -- of what is given, or what a program has, and may be called
 pub predicate-there : (name : List ℕ) (k : ℕ) (known : Bool) → IsTrue (is_given_predicate name k || known) → may_be_called name k ≡ true → IsTrue known ⊎ IsTrue (is_machine_predicate name k)
 predicate-there name k known there may =
-    go (is_call name k) (is_predicate name k) (is_later_predicate name k) known (is_own name k || is_prelude_kind (kind_of name k)) (later-theirs name k) there may
+    go (is_call name k) (is_predicate name k) (is_constraint_goal name k) (is_later_predicate name k) known (is_own name k || is_prelude_kind (kind_of name k)) (later-theirs name k) there may
   where
-    go : (by_term table later known other : Bool) → (later ≡ true → not other ≡ true) → IsTrue ((by_term || (table || later)) || known) → (by_term || (table || other)) ≡ true → IsTrue known ⊎ IsTrue (by_term || table)
-    go true table later known other theirs there may = inr refl
-    go false true later known other theirs there may = inr refl
-    go false false true known true theirs there may = absurd (false≢true (theirs refl))
-    go false false true known false theirs there may = absurd (false≢true may)
-    go false false false known other theirs there may = inl there
+    go : (by_term table posts later known other : Bool) → (later ≡ true → not other ≡ true) → IsTrue ((by_term || (table || later)) || known) → (by_term || ((table || posts) || other)) ≡ true →
+        IsTrue known ⊎ IsTrue (by_term || (table || posts))
+    go true table posts later known other theirs there may = inr refl
+    go false true posts later known other theirs there may = inr refl
+    go false false true later known other theirs there may = inr refl
+    go false false false true known true theirs there may = absurd (false≢true (theirs refl))
+    go false false false true known false theirs there may = absurd (false≢true may)
+    go false false false false known other theirs there may = inl there
 
 -- ---- functions
 
+-- it is none of the program's, and no sign of constraints
 abbrev is_not_own : List ℕ → ℕ → Bool
-is_not_own name k = not (is_own name k)
+is_not_own name k = not (is_own name k || is_boolean_sign name k)
 
 resource-theirs : (name : List ℕ) (k : ℕ) → is_resource name k ≡ true → is_not_own name k ≡ true
 unfolding kind_of function_rows predicate_rows prelude_rows
@@ -53,24 +60,26 @@ resource-theirs name k is =
     let parts : ((k == 0) ≡ true) × (bytes_eq name (codes "current_resource") ≡ true) = and_parts (k == 0) (bytes_eq name (codes "current_resource")) is in
     subst (λ (j : ℕ). is_not_own name j ≡ true) (sym (eqb-true k 0 parts.0)) (subst (λ (n : List ℕ). is_not_own n 0 ≡ true) (sym (same-name name (codes "current_resource") parts.1)) refl)
 
-domain-theirs : (name : List ℕ) (k : ℕ) → is_later_function name k ≡ true → is_not_own name k ≡ true
+pub domain-theirs : (name : List ℕ) (k : ℕ) → is_later_function name k ≡ true → is_not_own name k ≡ true
 unfolding is_later_function kind_of function_rows predicate_rows prelude_rows each-spelled
 domain-theirs name k is =
     let spellings : List (List ℕ) = codes "fd_min" ∷ codes "fd_max" ∷ codes "fd_size" ∷ codes "fd_dom" ∷ [] in
     let parts : ((k == 1) ≡ true) × (is_one_of spellings name ≡ true) = and_parts (k == 1) (is_one_of spellings name) is in
     subst (λ (j : ℕ). is_not_own name j ≡ true) (sym (eqb-true k 1 parts.0)) (spellings-hold (λ n j. is_not_own n j) 1 spellings refl name parts.1)
 
-pub function-there : (name : List ℕ) (k : ℕ) (known : Bool) → IsTrue (is_given_function name k || known) → is_built_function name k ≡ true → IsTrue known ⊎ IsTrue (is_function name k)
+pub function-there : (name : List ℕ) (k : ℕ) (known : Bool) → IsTrue (is_given_function name k || known) → is_built_function name k ≡ true → IsTrue known ⊎ IsTrue (is_value_name name k)
 function-there name k known there may =
-    go (is_function name k) (is_resource name k) (is_later_function name k) known (is_own name k) (resource-theirs name k) (domain-theirs name k) there may
+    go (is_function name k) (is_domain_function name k) (is_resource name k) (is_later_function name k) known (is_own name k || is_boolean_sign name k) (resource-theirs name k) (domain-theirs name k) there may
   where
-    go : (table resource domain known own : Bool) → (resource ≡ true → not own ≡ true) → (domain ≡ true → not own ≡ true) → IsTrue ((table || (resource || domain)) || known) → (table || own) ≡ true → IsTrue known ⊎ IsTrue table
-    go true resource domain known own one two there may = inr refl
-    go false true domain known true one two there may = absurd (false≢true (one refl))
-    go false true domain known false one two there may = absurd (false≢true may)
-    go false false true known true one two there may = absurd (false≢true (two refl))
-    go false false true known false one two there may = absurd (false≢true may)
-    go false false false known own one two there may = inl there
+    go : (table domain resource later known own : Bool) → (resource ≡ true → not own ≡ true) → (later ≡ true → not own ≡ true) → IsTrue ((table || (resource || later)) || known) → ((table || domain) || own) ≡ true →
+        IsTrue known ⊎ IsTrue (table || domain)
+    go true domain resource later known own one two there may = inr refl
+    go false true resource later known own one two there may = inr refl
+    go false false true later known true one two there may = absurd (false≢true (one refl))
+    go false false true later known false one two there may = absurd (false≢true may)
+    go false false false true known true one two there may = absurd (false≢true (two refl))
+    go false false false true known false one two there may = absurd (false≢true may)
+    go false false false false known own one two there may = inl there
 
 -- ---- planner calls
 
@@ -96,7 +105,7 @@ abbrev no_machine : List ℕ → ℕ → Bool
 no_machine name k = not (is_machine_predicate name k)
 
 planners-not : OfPlanners no_machine
-unfolding is_predicate has_line tests comparing_tests kind_tests writing_predicates other_predicates
+unfolding is_predicate constraint_goals has_line tests comparing_tests kind_tests writing_predicates other_predicates
 planners-not = ((refl, refl, refl), (refl, refl, refl))
 
 planners-given : OfPlanners is_given_predicate
@@ -117,12 +126,11 @@ planner-given name k is = planner-is is_given_predicate planners-given name k is
 -- ---- what the machine has is given
 
 pub machine-given : (name : List ℕ) (k : ℕ) → IsTrue (is_machine_predicate name k) → IsTrue (is_given_predicate name k)
-machine-given name k is = go (is_call name k) (is_predicate name k) (is_later_predicate name k) is
+machine-given name k is = go (is_call name k) (is_effect_name name k) (is_predicate name k || is_later_predicate name k) (effect-given name k) is
   where
-    go : (a b c : Bool) → IsTrue (a || b) → IsTrue (a || (b || c))
-    go true b c h = refl
-    go false true c h = refl
-    go false false c h = absurd (false≢true h)
+    go : (a b c : Bool) → (b ≡ true → c ≡ true) → IsTrue (a || b) → IsTrue (a || c)
+    go true b c f h = refl
+    go false b c f h = f h
 
-pub table-given : (name : List ℕ) (k : ℕ) → IsTrue (is_function name k) → IsTrue (is_given_function name k)
-table-given name k is = or_left (is_function name k) (is_resource name k || is_later_function name k) is
+pub table-given : (name : List ℕ) (k : ℕ) → IsTrue (is_value_name name k) → IsTrue (is_given_function name k)
+table-given name k is = value-given name k is

@@ -1,4 +1,5 @@
--- Names that are built have plain calls: none of their arguments stands as a goal, as a pattern or between the signs of constraints, and a predicate reads each as an expression.
+-- Names that are built have plain calls, but for goals of constraints: none of their arguments stands as a goal, as a pattern or between the signs of constraints, and a predicate reads each as an
+-- expression.
 use Rattle.std.proofs.Common.{◌≡◌, ℕ, Bool, true, false, cond, if◌then◌else◌, List, [], ◌∷◌, refl, sym, subst}
 use Rattle.std.specs.Prelude.{◌==◌, ◌&&◌, ◌||◌, nat_le, not, Option, Some, None, is_none, is_some, codes}
 use Rattle.std.specs.Str.{bytes_eq}
@@ -19,11 +20,13 @@ use Rattle.pi_syntax.specs.Forms.{is_form}
 use Rattle.pi_syntax.specs.Names.{function_rows, predicate_rows, prelude_rows, row, is_listed, kind_of}
 use Rattle.pi_syntax.specs.declared.builtin.BuiltinKind.{BuiltinKind}
 use Rattle.pi_syntax.specs.Tokens.{is_one_of}
+use Rattle.pi_settling.specs.DomainValues.{domain_functions, is_domain_function}
+use Rattle.pi_meaning.specs.Shared.Effects.{is_value_name}
 use Rattle.pi_meaning.specs.Shared.Names.{is_catch, is_call}
 use Rattle.pi_meaning.specs.OverNames.Forms.{Reading, is_constraint, is_connective, is_within, readings, is_find_all, is_count_all}
 use Rattle.pi_meaning.proofs.Shared.TableLemmas.{Test, same-name, one-of, each-spelled, spellings-hold, each-below, body-holds, each-line, lines-hold, each-from, each-row, rows-hold}
 use Rattle.pi_prog_clauses.specs.Operators.{is_goal_sign, is_relation, is_membership, is_reified, is_goal_call}
-use Rattle.pi_rewrite_sound.specs.Built.{is_own, is_prelude_kind, is_built_predicate, is_built_function}
+use Rattle.pi_rewrite_sound.specs.Built.{is_own, is_prelude_kind, is_boolean_sign, is_built_function}
 
 -- ---- which calls aren't plain
 
@@ -53,7 +56,7 @@ is_plain_function name k = not (has_places name k) || is_no_expression name k
 
 -- ---- names of the tables
 
-predicate-plain : (name : List ℕ) (k : ℕ) → is_predicate name k ≡ true → is_plain name k ≡ true
+pub predicate-plain : (name : List ℕ) (k : ℕ) → is_predicate name k ≡ true → is_plain name k ≡ true
 unfolding is_predicate tests comparing_tests kind_tests writing_predicates other_predicates each-line body-holds each-below readings is_goal_sign is_membership is_reified
 predicate-plain name k found =
     let P : Test = λ n j. is_plain n j in
@@ -78,7 +81,7 @@ pub prelude-listed : (name : List ℕ) (k : ℕ) → is_prelude_kind (kind_of na
 unfolding kind_of
 prelude-listed name k h = in-prelude (is_listed function_rows name k) (is_listed predicate_rows name k) (is_listed prelude_rows name k) h
 
-prelude-plain : (name : List ℕ) (k : ℕ) → is_prelude_kind (kind_of name k) ≡ true → is_plain name k ≡ true
+pub prelude-plain : (name : List ℕ) (k : ℕ) → is_prelude_kind (kind_of name k) ≡ true → is_plain name k ≡ true
 unfolding prelude_rows each-row each-from readings is_goal_sign is_membership is_reified
 prelude-plain name k h = rows-hold (λ n j. is_plain n j) prelude_rows refl name k (prelude-listed name k h)
 
@@ -87,12 +90,12 @@ prelude-plain name k h = rows-hold (λ n j. is_plain n j) prelude_rows refl name
 abbrev is_given_name : Test
 is_given_name name k = is_form name k || is_some (kind_of name k)
 
-spelled : (P : Test) (name spelling : List ℕ) (k j : ℕ) → (k == j && bytes_eq name spelling) ≡ true → P spelling j ≡ true → P name k ≡ true
+pub spelled : (P : Test) (name spelling : List ℕ) (k j : ℕ) → (k == j && bytes_eq name spelling) ≡ true → P spelling j ≡ true → P name k ≡ true
 spelled P name spelling k j found h =
     let parts : ((k == j) ≡ true) × (bytes_eq name spelling ≡ true) = and_parts (k == j) (bytes_eq name spelling) found in
     subst (λ (i : ℕ). P name i ≡ true) (sym (eqb-true k j parts.0)) (subst (λ (n : List ℕ). P n j ≡ true) (sym (same-name name spelling parts.1)) h)
 
-listed : (P : Test) (k j : ℕ) (spellings : List (List ℕ)) → each-spelled P j spellings ≡ true → (name : List ℕ) → (k == j && is_one_of spellings name) ≡ true → P name k ≡ true
+pub listed : (P : Test) (k j : ℕ) (spellings : List (List ℕ)) → each-spelled P j spellings ≡ true → (name : List ℕ) → (k == j && is_one_of spellings name) ≡ true → P name k ≡ true
 listed P k j spellings each name found =
     let parts : ((k == j) ≡ true) × (is_one_of spellings name ≡ true) = and_parts (k == j) (is_one_of spellings name) found in
     subst (λ (i : ℕ). P name i ≡ true) (sym (eqb-true k j parts.0)) (spellings-hold P j spellings each name parts.1)
@@ -148,7 +151,7 @@ not-given : (a given : Bool) → given ≡ false → (a ≡ true → given ≡ t
 not-given true given none f = let e : given ≡ true = f refl in absurd cc
 not-given false given none f = refl
 
-own-plain : (name : List ℕ) (k : ℕ) → is_own name k ≡ true → is_plain name k ≡ true
+pub own-plain : (name : List ℕ) (k : ℕ) → is_own name k ≡ true → is_plain name k ≡ true
 unfolding readings
 own-plain name k own =
     let none : is_given_name name k ≡ false = own-not-given name k own in
@@ -174,11 +177,6 @@ term-plain name k is =
     plain-parts name k (subst (λ (n : List ℕ). is_plain n k ≡ true) (sym (same-name name (codes "call") parts.1))
     (rows-hold (λ n j. is_plain n j) (row (codes "call") 1 8 ∷ []) refl (codes "call") k (or_left (nat_le 1 k && nat_le k 8) false parts.0)))
 
-pub built-plain : (name : List ℕ) (k : ℕ) → is_built_predicate name k ≡ true → (has_places name k ≡ false) × (readings name k ≡ [])
-built-plain name k built =
-    plain-parts name k
-    (one-of (is_predicate name k) _ (is_plain name k) (predicate-plain name k) (one-of (is_own name k) (is_prelude_kind (kind_of name k)) (is_plain name k) (own-plain name k) (prelude-plain name k)) built)
-
 but-for : (a b : Bool) → (not a || b) ≡ true → b ≡ false → a ≡ false
 but-for true b h e = absurd cc
 but-for false b h e = refl
@@ -187,8 +185,30 @@ first-of : (a b : Bool) → a ≡ true → (a || b) ≡ true
 first-of true b h = refl
 first-of false b h = absurd cc
 
+-- a function of a domain
+domain-plain : (name : List ℕ) (k : ℕ) → is_domain_function name k ≡ true → is_plain_function name k ≡ true
+unfolding domain_functions each-line body-holds is_goal_sign is_relation is_membership is_reified
+domain-plain name k found = lines-hold (λ n j. is_plain_function n j) domain_functions refl name k found
+
+-- a sign of constraints is no expression
+pub sign-no_expression : (name : List ℕ) (k : ℕ) → is_boolean_sign name k ≡ true → is_no_expression name k ≡ true
+unfolding each-spelled is_goal_sign is_relation is_membership is_reified
+sign-no_expression name k h =
+    let P : Test = λ n j. is_no_expression n j in
+    one-of (is_connective name k) (is_constraint name k) (P name k)
+    (one-of (k == 1 && bytes_eq name (codes "#~")) _ (P name k) (λ e. spelled P name (codes "#~") k 1 e refl)
+    (listed P k 2 (codes "#/\\" ∷ codes "#\\/" ∷ codes "#^" ∷ codes "#=>" ∷ codes "#<=>" ∷ []) refl name))
+    (listed P k 2 (codes "#=" ∷ codes "#!=" ∷ codes "#<" ∷ codes "#=<" ∷ codes "#<=" ∷ codes "#>" ∷ codes "#>=" ∷ []) refl name) h
+
+second-of : (a b : Bool) → b ≡ true → (a || b) ≡ true
+second-of true b h = refl
+second-of false b h = h
+
 pub function-built-plain : (name : List ℕ) (k : ℕ) → is_built_function name k ≡ true → is_no_expression name k ≡ false → has_places name k ≡ false
 function-built-plain name k built expression =
     but-for (has_places name k) (is_no_expression name k)
-    (one-of (is_function name k) (is_own name k) (is_plain_function name k) (function-plain name k)
-    (λ own. first-of (not (has_places name k)) (is_no_expression name k) (and_parts (not (has_places name k)) (are_plain (readings name k)) (own-plain name k own)).0) built) expression
+    (one-of (is_value_name name k) _ (is_plain_function name k)
+    (one-of (is_function name k) (is_domain_function name k) (is_plain_function name k) (function-plain name k) (domain-plain name k))
+    (one-of (is_own name k) (is_boolean_sign name k) (is_plain_function name k)
+    (λ own. first-of (not (has_places name k)) (is_no_expression name k) (and_parts (not (has_places name k)) (are_plain (readings name k)) (own-plain name k own)).0)
+    (λ sign. second-of (not (has_places name k)) (is_no_expression name k) (sign-no_expression name k sign))) built) expression

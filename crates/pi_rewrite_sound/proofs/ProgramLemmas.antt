@@ -11,7 +11,7 @@ use Rattle.pi_syntax.specs.ProgramTree.{WrittenClause, rule, function, fact, Pro
 use Rattle.pi_syntax.specs.Signature.{Signature, signature, exp_count}
 use Rattle.pi_syntax.specs.declared.program.Decl.{Decl}
 use Rattle.pi_syntax.specs.declared.program.Mode.{Mode}
-use Rattle.pi_effects.specs.BuiltIns.{is_function}
+use Rattle.pi_meaning.specs.Shared.Effects.{is_value_name}
 use Rattle.pi_meaning.specs.Shared.Names.{is_given_predicate, is_given_function, is_given}
 use Rattle.pi_meaning.specs.CoreMeaning.Quiet.{Callee, IsQuiet, TicksBetween}
 use Rattle.pi_meaning.specs.OverNames.WrittenRules.{head_arguments}
@@ -161,8 +161,8 @@ pub program-allows : (program : ProgramTree) (preds : List PredTree) → ((name 
 program-allows program preds predicates functions = record {
   predicates = λ name k is. or_left (is_some (find_pred false name k preds)) (is_machine_predicate name k) (predicates name k is);
   machine = λ name k is. or_right (is_some (find_pred false name k preds)) (is_machine_predicate name k) is;
-  functions = λ name k is. or_left (is_some (find_pred true name k preds)) (is_function name k) (functions name k is);
-  tables = λ name k is. or_right (is_some (find_pred true name k preds)) (is_function name k) is;
+  functions = λ name k is. or_left (is_some (find_pred true name k preds)) (is_value_name name k) (functions name k is);
+  tables = λ name k is. or_right (is_some (find_pred true name k preds)) (is_value_name name k) is;
 }
 
 module _ (program : ProgramTree) (within : IsWithin program) (built : unbuilt_part program ≡ None) (called : Naming) (names : AreNames program called) where

@@ -9,7 +9,7 @@ use Rattle.pi_syntax.specs.declared.program.Mode.{Mode}
 use Rattle.pi_core.specs.GoalTree.{GoalTree}
 use Rattle.pi_core.specs.CoreTree.{ClauseTree, PredTree, find_pred}
 use Rattle.pi_core.specs.declared.core_program.NameSlot.{NameSlot}
-use Rattle.pi_effects.specs.BuiltIns.{is_function}
+use Rattle.pi_meaning.specs.Shared.Effects.{is_value_name}
 use Rattle.pi_meaning.specs.Shared.Names.{is_given}
 use Rattle.pi_meaning.specs.CoreMeaning.Quiet.{Callee, Reaches, ReachesFrom, IsQuiet}
 use Rattle.pi_meaning.specs.CoreMeaning.Sound.{CallsKnown, IsSoundClause, IsSoundIndex, IsSound}
@@ -140,7 +140,7 @@ module _ (program : ProgramTree) (goal : ExpTree) (preds : List PredTree) (defin
   given-machine name k (inl there) = inl there
   given-machine name k (inr machine) = inr (machine-given name k machine)
 
-  given-table : (name : List ℕ) (k : ℕ) → IsSome (find_pred true name k preds) ⊎ IsTrue (is_function name k) → Stands true name k
+  given-table : (name : List ℕ) (k : ℕ) → IsSome (find_pred true name k preds) ⊎ IsTrue (is_value_name name k) → Stands true name k
   given-table name k (inl there) = inl there
   given-table name k (inr table) = inr (table-given name k table)
 

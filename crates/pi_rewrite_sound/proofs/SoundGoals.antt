@@ -6,7 +6,7 @@ use Rattle.std.specs.Prelude.{Option, Some, None, Contains, is_some, IsSome, IsT
 use Rattle.pi_terms.specs.Tree.{Tree}
 use Rattle.pi_core.specs.GoalTree.{GoalTree, truth, fail, tick, call, apply, seq, alternatives, if_else, not, once, collect, count, catch, GoalTrees, no_goals, goal, subgoals, subgoals_all}
 use Rattle.pi_core.specs.CoreTree.{PredTree, find_pred}
-use Rattle.pi_effects.specs.BuiltIns.{is_function}
+use Rattle.pi_meaning.specs.Shared.Effects.{is_value_name}
 use Rattle.pi_meaning.specs.Shared.Names.{is_given, is_planner}
 use Rattle.pi_meaning.specs.CoreMeaning.Quiet.{Callee, Reaches, ReachesInAll, ReachesInAny}
 use Rattle.pi_meaning.specs.CoreMeaning.Sound.{CallsKnown}
@@ -51,14 +51,14 @@ goal-good preds free n g fine = record {
     predicate : (name : List ℕ) (args : List Tree) → Contains (subgoals g) (call name args) → IsSome (find_pred false name (length args) preds) ⊎ IsTrue (is_machine_predicate name (length args))
     predicate name args there = one-of-two (is_some (find_pred false name (length args) preds)) (is_machine_predicate name (length args)) (predicate-may n (found_in preds) g fine name args there)
 
-    applied : (name : List ℕ) (args : List Tree) (slot : ℕ) → Contains (subgoals g) (apply name args slot) → IsSome (find_pred true name (length args) preds) ⊎ IsTrue (is_function name (length args))
-    applied name args slot there = one-of-two (is_some (find_pred true name (length args) preds)) (is_function name (length args)) (function-may n (found_in preds) g fine name args slot there)
+    applied : (name : List ℕ) (args : List Tree) (slot : ℕ) → Contains (subgoals g) (apply name args slot) → IsSome (find_pred true name (length args) preds) ⊎ IsTrue (is_value_name name (length args))
+    applied name args slot there = one-of-two (is_some (find_pred true name (length args) preds)) (is_value_name name (length args)) (function-may n (found_in preds) g fine name args slot there)
 
     given : (name : List ℕ) (k : ℕ) → IsSome (find_pred false name k preds) ⊎ IsTrue (is_machine_predicate name k) → IsSome (find_pred false name k preds) ⊎ IsTrue (is_given false name k)
     given name k (inl found) = inl found
     given name k (inr machine) = inr (machine-given name k machine)
 
-    tabled : (name : List ℕ) (k : ℕ) → IsSome (find_pred true name k preds) ⊎ IsTrue (is_function name k) → IsSome (find_pred true name k preds) ⊎ IsTrue (is_given true name k)
+    tabled : (name : List ℕ) (k : ℕ) → IsSome (find_pred true name k preds) ⊎ IsTrue (is_value_name name k) → IsSome (find_pred true name k preds) ⊎ IsTrue (is_given true name k)
     tabled name k (inl found) = inl found
     tabled name k (inr table) = inr (table-given name k table)
 

@@ -1,5 +1,5 @@
 -- What a program and a goal are lowered to, loops among the rest, is sound where all of it is built: slots, calls and clauses fit each other, a Tick stands on each way round, and nothing
--- is called but what the program defines, the helpers of its loops, what the tables of built-ins have, and `call`. So it is under any names of helpers that are no one else's. (Own.)
+-- is called but what the program defines, the helpers of its loops, what is built, and `call`. So it is under any names of helpers that are no one else's. (Own.)
 use Rattle.std.specs.Prelude.{◌≡◌, ◌++◌, ◌&&◌, ℕ, Bool, true, false, List, [], ◌∷◌, map, filter, Option, Some, None, All}
 use Rattle.std.specs.Option.{option_or}
 use Rattle.pi_syntax.specs.ExpTree.{ExpTree}
@@ -32,7 +32,7 @@ pub record IsPlain (pred : PredTree) : Type 0 where
 abbrev pub LoweredProgramsAreSound : Type 0
 LoweredProgramsAreSound = (program : ProgramTree) → IsWithin program → unbuilt_part program ≡ None → (called : Naming) → AreNames program called → IsSound (core_program called program)
 
--- they call what they define, what the tables have, and `call`, and nothing that they define has a name that the language gives
+-- they call what they define, what is built, and `call`, and nothing that they define has a name that the language gives
 abbrev pub LoweredProgramsAreClosed : Type 0
 LoweredProgramsAreClosed = (program : ProgramTree) → IsWithin program → unbuilt_part program ≡ None → (called : Naming) → AreNames program called →
     ProgramCallsDefined (core_program called program) × NamesAreFree (core_program called program)

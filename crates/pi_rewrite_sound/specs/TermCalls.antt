@@ -1,11 +1,19 @@
 -- Which programs and goals call terms by `call`, by what is written alone. What such a call leads to is told only by a run, so it may be any name of the language; without one, a program
 -- calls the names that stand in it. (Own.)
-use Rattle.std.specs.Prelude.{◌≡◌, ◌⊎◌, Bool, false, ◌||◌, [], ◌∷◌, Option, Some, None}
+use Rattle.std.specs.Prelude.{◌≡◌, ◌⊎◌, ℕ, Bool, true, false, ◌||◌, List, [], ◌∷◌, Option, Some, None}
+use Rattle.pi_terms.specs.Tree.{Trees, tree_count}
+use Rattle.pi_constraints.specs.State.{State}
 use Rattle.pi_syntax.specs.ExpTree.{ExpTree, var, int, atom, str, list, list_onto, array, call, quote, index, range, range_by, at, collect, and, or, arrow, if_then, if_else, foreach, while_do, do_while, ExpTrees, no_exps, exp, ExpBranches, no_branches, branch}
 use Rattle.pi_syntax.specs.ProgramTree.{RuleTree, FunctionTree, WrittenClause, rule, function, fact, ProgramTree}
 use Rattle.pi_syntax.specs.Signature.{exp_count}
+use Rattle.pi_settling.specs.DomainValues.{is_domain_function}
+use Rattle.pi_settling.specs.Goals.{is_constraint_goal}
+use Rattle.pi_meaning.specs.Shared.View.{View}
+use Rattle.pi_meaning.specs.Shared.Level.{Level}
 use Rattle.pi_meaning.specs.Shared.Names.{is_call}
-use Rattle.pi_meaning.specs.OverNames.Stages.{LaterStages, no_stages}
+use Rattle.pi_meaning.specs.Shared.Given.{Later}
+use Rattle.pi_meaning.specs.CoreMeaning.Instances.{built_later}
+use Rattle.pi_meaning.specs.OverNames.Stages.{LaterStages, built_stages}
 
 -- A call of `call` stands in it, at any depth. Behind `$` all is a term, which calls nothing where it stands.
 unfoldable mutual
@@ -69,11 +77,17 @@ CallNoTerms program goal = (program_calls_terms program ≡ false) × (calls_ter
 
 -- ---- what is said of them
 
--- A program means the same whatever later stages of the language give; where it calls terms, that is said of what it means where none is there: so far what one will give is unknown to
+-- goals of constraints and functions of domains do what is built
+pub record GivesBuilt (later : Later) : Type 0 where
+  pub goals : (v : View) (l : Level) (name : List ℕ) (ts : Trees) (s : State) → is_constraint_goal name (tree_count ts) ≡ true →
+      later.predicate v l name ts s ≡ built_later.predicate v l name ts s
+  pub functions : (name : List ℕ) (ts : Trees) (s : State) → is_domain_function name (tree_count ts) ≡ true → later.function name ts s ≡ built_later.function name ts s
+
+-- A program means the same whatever labelling, events and planner calls do; where it calls terms, that is said of what it means where these aren't there: so far they are unknown to
 -- `call`.
 abbrev pub ProgramAllows : LaterStages → ProgramTree → Type 0
-ProgramAllows later program = (program_calls_terms program ≡ false) ⊎ (later ≡ no_stages)
+ProgramAllows later program = ((program_calls_terms program ≡ false) × GivesBuilt later.calls) ⊎ (later ≡ built_stages)
 
 -- so with a goal that is asked of it
 abbrev pub Allows : LaterStages → ProgramTree → ExpTree → Type 0
-Allows later program goal = CallNoTerms program goal ⊎ (later ≡ no_stages)
+Allows later program goal = (CallNoTerms program goal × GivesBuilt later.calls) ⊎ (later ≡ built_stages)
