@@ -1,8 +1,8 @@
--- The names that are called by a goal: those of the tables of predicates, `catch` and `call`, and those of predicates that aren't quiet.
+-- The names that are called by a goal: those of the tables of predicates, of goals of constraints, `catch` and `call`, and those of predicates that aren't quiet.
 use Rattle.std.proofs.Common.{◌≡◌, ◌↔◌, ◌⊎◌, inl, inr, ℕ, zero, suc, ◌<◌, ◌==◌, ◌&&◌, Bool, true, false, cond, not, List, [], ◌∷◌, ◌++◌, Option, Some, None, map, get_or, refl, sym, ◌∙◌, ap, subst, arith, eqb-true}
 use Rattle.std.specs.Prelude.{option_map, IsTrue, IsSome, Contains, All, filter, AllPairs, slice_get, nat_le, ◌||◌, codes}
 use Rattle.std.specs.Str.{bytes_eq}
-use Rattle.std.specs.List.{list_all}
+use Rattle.std.specs.List.{list_all, list_any}
 use Rattle.std.proofs.lemmas.Slice.Eq.{bytes_eq-Decides}
 use Rattle.std.proofs.lemmas.Option.{slice_get-map}
 use Rattle.std.proofs.lemmas.List.{map-append}
@@ -14,12 +14,16 @@ use Rattle.pi_core.specs.GoalTree.{GoalTree}
 use Rattle.pi_core.specs.CoreTree.{PredTree, pred_tree, is_pred, find_pred}
 use Rattle.pi_core.specs.declared.core_program.CorePred.{CorePred}
 use Rattle.pi_effects.specs.BuiltIns.{is_predicate}
+use Rattle.pi_effects.specs.Rows.{has_line}
+use Rattle.pi_settling.specs.Goals.{constraint_goals, is_constraint_goal}
+use Rattle.pi_meaning.specs.Shared.Effects.{is_effect_name}
 use Rattle.pi_meaning.specs.Shared.Names.{is_catch, is_call}
 use Rattle.pi_meaning.specs.CoreMeaning.Sound.{IsAnother}
 use Rattle.pi_meaning.specs.CoreMeaning.Instances.{is_called_by_name}
 use Rattle.pi_meaning.specs.Machine.NamedGoals.{goal_by_name}
 use Rattle.pi_meaning.proofs.Machine.NamedLemmas.{NamedBy, by_catch, by_call, by_name, IsUnnamed, Names, names-it, named-by}
 use Rattle.pi_meaning.proofs.Shared.FoundLemmas.{named, found-by-number}
+use Rattle.pi_meaning.proofs.Shared.TableLemmas.{body-holds, each-line, lines-hold}
 use Rattle.pi_lib_builtin.specs.Resolved.{Named}
 use Rattle.pi_engine_code.specs.Callables.{names_called, AreNamed}
 
@@ -48,7 +52,7 @@ is-call name k is =
     ((bytes_eq-Decides name (codes "call")).0 parts.1, parts.0)
 
 abbrev IsOneOf : List PredTree → List ℕ → ℕ → Type 0
-IsOneOf preds name k = (is_catch name k ≡ true) ⊎ ((is_call name k ≡ true) ⊎ ((is_predicate name k ≡ true) ⊎ (is_called_by_name (find_pred false name k preds) ≡ true)))
+IsOneOf preds name k = (is_catch name k ≡ true) ⊎ ((is_call name k ≡ true) ⊎ ((is_effect_name name k ≡ true) ⊎ (is_called_by_name (find_pred false name k preds) ≡ true)))
 
 either-there : (a b : Bool) → (a || b) ≡ true → (a ≡ true) ⊎ (b ≡ true)
 either-there true b h = inl refl
@@ -57,7 +61,7 @@ either-there false b h = inr h
 has-goal : (preds : List PredTree) (name : List ℕ) (k : ℕ) (g : GoalTree) → NamedBy preds name k g → IsOneOf preds name k
 has-goal preds name k _ (by_catch catches) = inl catches
 has-goal preds name k _ (by_call other calls) = inr (inl calls)
-has-goal preds name k _ (by_name other another there) = inr (inr (either-there (is_predicate name k) (is_called_by_name (find_pred false name k preds)) there))
+has-goal preds name k _ (by_name other another there) = inr (inr (either-there (is_effect_name name k) (is_called_by_name (find_pred false name k preds)) there))
 
 neither-there : (a b : Bool) → (a || b) ≡ false → (a ≡ true) ⊎ (b ≡ true) → ⊥
 neither-there true b none h = cc none
@@ -67,7 +71,7 @@ neither-there false b none (inr h) = cc (none, h)
 not-one : (preds : List PredTree) (name : List ℕ) (k : ℕ) → IsUnnamed preds name k → IsOneOf preds name k → ⊥
 not-one preds name k none (inl catches) = cc (catches, none.no_catch)
 not-one preds name k none (inr (inl calls)) = cc (calls, none.no_call)
-not-one preds name k none (inr (inr there)) = neither-there (is_predicate name k) (is_called_by_name (find_pred false name k preds)) none.not_there there
+not-one preds name k none (inr (inr there)) = neither-there (is_effect_name name k) (is_called_by_name (find_pred false name k preds)) none.not_there there
 
 named-some : (preds : List PredTree) (name : List ℕ) (k : ℕ) (o : Option GoalTree) → Names preds name k o → IsOneOf preds name k → IsSome o
 named-some preds name k (Some g) names h = refl
@@ -163,12 +167,81 @@ alone x y there = elim (Contains-push_cases [] x y there) [
   | inr same ↦ same
 ]
 
+-- ---- goals of constraints
+
+abbrev pub constraint_names : List (Named ℕ)
+constraint_names =
+    (codes "::", 2) ∷
+    (codes "notin", 2) ∷
+    (codes "#=", 2) ∷
+    (codes "#!=", 2) ∷
+    (codes "#<", 2) ∷
+    (codes "#=<", 2) ∷
+    (codes "#<=", 2) ∷
+    (codes "#>", 2) ∷
+    (codes "#>=", 2) ∷
+    (codes "#~", 1) ∷
+    (codes "#/\\", 2) ∷
+    (codes "#\\/", 2) ∷
+    (codes "#^", 2) ∷
+    (codes "#=>", 2) ∷
+    (codes "#<=>", 2) ∷
+    (codes "all_different", 1) ∷
+    (codes "all_distinct", 1) ∷
+    (codes "element", 3) ∷
+    []
+
+-- each that stands there is one
+all-constraints : list_all (λ r. is_constraint_goal r.0 r.1) constraint_names ≡ true
+unfolding constraint_goals has_line
+all-constraints = refl
+
+-- a name stands there with so many arguments
+abbrev stands : List (Named ℕ) → List ℕ → ℕ → Bool
+stands rows name k = list_any (λ r. bytes_eq r.0 name && (r.1 == k)) rows
+
+first-or-later : (r : Named ℕ) (rows : List (Named ℕ)) (name : List ℕ) (k : ℕ) (here : Bool) → (bytes_eq r.0 name && (r.1 == k)) ≡ here → (stands rows name k ≡ true → Contains rows (name, k)) → (here || stands rows name k) ≡ true → Contains (r ∷ rows) (name, k)
+first-or-later r rows name k true e later is =
+    let parts : (bytes_eq r.0 name ≡ true) × (r.1 == k ≡ true) = both (bytes_eq r.0 name) (r.1 == k) e in
+    subst (λ j. Contains (r ∷ rows) (name, j)) (eqb-true r.1 k parts.1) (subst (λ n. Contains (r ∷ rows) (n, r.1)) ((bytes_eq-Decides r.0 name).0 parts.0) (contains-first r rows))
+first-or-later r rows name k false e later is = Contains-append_right (r ∷ []) rows (name, k) (later is)
+
+standing : (rows : List (Named ℕ)) (name : List ℕ) (k : ℕ) → stands rows name k ≡ true → Contains rows (name, k)
+standing [] name k is = absurd cc
+standing (r ∷ rows) name k is = first-or-later r rows name k (bytes_eq r.0 name && (r.1 == k)) refl (standing rows name k) is
+
+constraint-there : (name : List ℕ) (k : ℕ) → is_constraint_goal name k ≡ true → Contains constraint_names (name, k)
+unfolding constraint_goals each-line body-holds
+constraint-there name k is = standing constraint_names name k (lines-hold (stands constraint_names) constraint_goals refl name k is)
+
+either-listed : (a b : Bool) → a ≡ true → (a || b) ≡ true
+either-listed true b h = refl
+either-listed false b h = absurd cc
+
+other-listed : (a b : Bool) → b ≡ true → (a || b) ≡ true
+other-listed true b h = refl
+other-listed false b h = h
+
+-- with the names of built-in predicates these are the names of all that is built
+pub effects-named : (built names : List (Named ℕ)) → ((name : List ℕ) (k : ℕ) → IsTrue (is_predicate name k) ↔ Contains built (name, k)) → names ≡ built ++ constraint_names → (name : List ℕ) (k : ℕ) → IsTrue (is_effect_name name k) ↔ Contains names (name, k)
+effects-named built names all e name k = (
+  λ is. subst (λ ns. Contains ns (name, k)) (sym e) (elim (either-there (is_predicate name k) (is_constraint_goal name k) is) [
+    | inl known ↦ Contains-append_left built constraint_names (name, k) ((all name k).0 known)
+    | inr goal ↦ Contains-append_right built constraint_names (name, k) (constraint-there name k goal)
+  ]),
+  λ there. elim (Contains-append_cases built constraint_names (name, k) (subst (λ ns. Contains ns (name, k)) e there)) [
+    | inl known ↦ either-listed (is_predicate name k) (is_constraint_goal name k) ((all name k).1 known)
+    | inr goal ↦ other-listed (is_predicate name k) (is_constraint_goal name k)
+        (All-contains (λ r. is_constraint_goal r.0 r.1 ≡ true) constraint_names (name, k) (AllPass-from_list_all (λ r. is_constraint_goal r.0 r.1) constraint_names all-constraints) goal)
+  ],
+)
+
 -- ---- all names
 
 all-append : (ps qs : List CorePred) → names_called (ps ++ qs) ≡ names_called ps ++ names_called qs
 all-append ps qs = ap (map (λ p. (p.name, p.arity))) (filter-append passes ps qs) ∙ map-append (λ p. (p.name, p.arity)) (filter passes ps) (filter passes qs)
 
-some-named : (ps qs : List CorePred) (built : List (Named ℕ)) → ((name : List ℕ) (k : ℕ) → IsTrue (is_predicate name k) ↔ Contains built (name, k)) → AllPairs IsAnother (map pred_tree (ps ++ qs)) → (name : List ℕ) (k : ℕ) →
+some-named : (ps qs : List CorePred) (built : List (Named ℕ)) → ((name : List ℕ) (k : ℕ) → IsTrue (is_effect_name name k) ↔ Contains built (name, k)) → AllPairs IsAnother (map pred_tree (ps ++ qs)) → (name : List ℕ) (k : ℕ) →
     Contains (all_named built ps qs) (name, k) → IsSome (goal_by_name (map pred_tree (ps ++ qs)) name k)
 some-named ps qs built all apart name k there =
     let called : Contains (names_called ps ++ names_called qs) (name, k) → IsSome (goal_by_name (map pred_tree (ps ++ qs)) name k) =
@@ -192,7 +265,7 @@ some-named ps qs built all apart name k there =
           ]
     ]
 
-each-named : (ps qs : List CorePred) (built : List (Named ℕ)) → ((name : List ℕ) (k : ℕ) → IsTrue (is_predicate name k) ↔ Contains built (name, k)) → (name : List ℕ) (k : ℕ) → IsOneOf (map pred_tree (ps ++ qs)) name k →
+each-named : (ps qs : List CorePred) (built : List (Named ℕ)) → ((name : List ℕ) (k : ℕ) → IsTrue (is_effect_name name k) ↔ Contains built (name, k)) → (name : List ℕ) (k : ℕ) → IsOneOf (map pred_tree (ps ++ qs)) name k →
     Contains (all_named built ps qs) (name, k)
 each-named ps qs built all name k (inl catches) =
     let same : (name ≡ codes "catch") × (k ≡ 3) = is-catch name k catches in
@@ -216,7 +289,7 @@ each-named ps qs built all name k (inr (inr (inr called))) =
           (Contains-append_right ((built ++ (codes "catch", 3) ∷ []) ++ call_names 8) (names_called ps) (name, k) program)
     ]
 
-pub are-named : (ps qs : List CorePred) (built names : List (Named ℕ)) → ((name : List ℕ) (k : ℕ) → IsTrue (is_predicate name k) ↔ Contains built (name, k)) → names ≡ all_named built ps qs → AreNamed (ps ++ qs) names
+pub are-named : (ps qs : List CorePred) (built names : List (Named ℕ)) → ((name : List ℕ) (k : ℕ) → IsTrue (is_effect_name name k) ↔ Contains built (name, k)) → names ≡ all_named built ps qs → AreNamed (ps ++ qs) names
 are-named ps qs built names all e =
     record {
       right = λ apart name k there. some-named ps qs built all apart name k (subst (λ ns. Contains ns (name, k)) e there);

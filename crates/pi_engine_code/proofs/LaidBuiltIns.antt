@@ -1,5 +1,5 @@
 -- Calls of what is built in: a name that stands among the names, and the predicates that bind nothing.
-use Rattle.std.proofs.Common.{◌≡◌, ◌≢◌, ℕ, Bool, true, false, cond, List, [], ◌∷◌, ◌++◌, Option, Some, None, length, option_map, refl, sym, ◌∙◌, ap, subst}
+use Rattle.std.proofs.Common.{◌≡◌, ◌≢◌, ℕ, Bool, true, false, cond, List, [], ◌∷◌, ◌++◌, ◌||◌, Option, Some, None, length, option_map, refl, sym, ◌∙◌, ap, subst}
 use Rattle.std.specs.Prelude.{codes, slice_get, Ok, Err}
 use Rattle.std.specs.Option.{option_or}
 use Rattle.std.specs.Str.{bytes_eq}
@@ -30,7 +30,10 @@ use Rattle.pi_core.specs.declared.goal_node.GoalKind.{GoalKind}
 use Rattle.pi_core.specs.declared.core_program.CorePred.{CorePred}
 use Rattle.pi_engine_code.specs.declared.code.Node.{Node}
 use Rattle.pi_engine_code.specs.declared.code.Code.{Code}
-use Rattle.pi_engine_code.specs.Laid.{tables_for, AddsOperands, OperandsAt, IsNodeOf}
+use Rattle.pi_lib_constraints.specs.Named.{IsConstraintNamed}
+use Rattle.pi_lib_constraints.specs.declared.functions.DomainFunction.{DomainFunction}
+use Rattle.pi_lib_constraints.specs.declared.kinds.ConstraintGoal.{ConstraintGoal}
+use Rattle.pi_engine_code.specs.Laid.{tables_for, AddsOperands, OperandsAt, IsDomainFunctionNamed, IsNodeOf}
 use Rattle.pi_engine_code.proofs.LaidTables.{longer-pushed}
 use Rattle.pi_engine_code.proofs.LaidTerms.{wider-added, operands-wider}
 
@@ -147,5 +150,36 @@ built-value-laid preds v d e name shown us f place first arity slot k pushed at 
   name-there d.names.items e.names.items name place pushed at,
   many,
   subst (λ n. IsFunctionNamed n (length us) f) same (subst (λ n. IsFunctionNamed shown n f) long named),
+  operands-wider (tables_for preds v.now.terms d) (tables_for preds v.now.terms (with_names d e)) first us (wider-added preds v v d (with_names d e) (name-pushed v d e name pushed).adds) are,
+)
+
+-- neither by one table nor by the other
+pub neither-built : (a b : Bool) → a ≡ false → b ≡ false → (a || b) ≡ false
+neither-built true b first second = absurd cc
+neither-built false b first second = second
+
+pub constraint-laid : {M : Type 0} (preds : List CorePred) (v : StoreView M) (d e : Code) (name shown : List ℕ) (us : List Tree) (g : ConstraintGoal) (place first arity k : ℕ) → e.names.items ≡ d.names.items ++ name ∷ [] → place ≡ length d.names.items → arity ≡ length us →
+    shown ≡ name → k ≡ length us → IsConstraintNamed shown k g → OperandsAt (tables_for preds v.now.terms d) first us →
+    IsNodeOf preds (tables_for preds v.now.terms (with_names d e)) (GoalKind.Call name us) (Node.Constrain g place first arity)
+constraint-laid preds v d e name shown us g place first arity k pushed at many same long named are = (
+  name,
+  us,
+  refl,
+  name-there d.names.items e.names.items name place pushed at,
+  many,
+  subst (λ n. IsConstraintNamed n (length us) g) same (subst (λ n. IsConstraintNamed shown n g) long named),
+  operands-wider (tables_for preds v.now.terms d) (tables_for preds v.now.terms (with_names d e)) first us (wider-added preds v v d (with_names d e) (name-pushed v d e name pushed).adds) are,
+)
+
+pub domain-value-laid : {M : Type 0} (preds : List CorePred) (v : StoreView M) (d e : Code) (name shown : List ℕ) (us : List Tree) (f : DomainFunction) (place first arity slot k : ℕ) → e.names.items ≡ d.names.items ++ name ∷ [] → place ≡ length d.names.items → arity ≡ length us →
+    shown ≡ name → k ≡ length us → IsDomainFunctionNamed shown k f → OperandsAt (tables_for preds v.now.terms d) first us →
+    IsNodeOf preds (tables_for preds v.now.terms (with_names d e)) (GoalKind.Apply name us slot) (Node.DomainValue f place first arity slot)
+domain-value-laid preds v d e name shown us f place first arity slot k pushed at many same long named are = (
+  name,
+  us,
+  refl,
+  name-there d.names.items e.names.items name place pushed at,
+  many,
+  (sym same ∙ named.0, sym long ∙ named.1),
   operands-wider (tables_for preds v.now.terms d) (tables_for preds v.now.terms (with_names d e)) first us (wider-added preds v v d (with_names d e) (name-pushed v d e name pushed).adds) are,
 )

@@ -3,6 +3,7 @@ pub mod CodeLemmas
 pub mod KeyLemmas
 pub mod KeyedLemmas
 pub mod LaidBuiltIns
+pub mod LaidEffects
 pub mod LaidGoals
 pub mod LaidNames
 pub mod LaidOperands

@@ -86,6 +86,8 @@ node_kind t (Node.Apply p first slot) = GoalKind.Apply (slice_index_or t.called 
 node_kind t (Node.Value value) = GoalKind.True
 node_kind t (Node.BuiltIn p name first arity) = GoalKind.Call (slice_index_or t.names name []) (operand_trees t first arity)
 node_kind t (Node.BuiltInValue f name first arity slot) = GoalKind.Apply (slice_index_or t.names name []) (operand_trees t first arity) slot
+node_kind t (Node.Constrain g name first arity) = GoalKind.Call (slice_index_or t.names name []) (operand_trees t first arity)
+node_kind t (Node.DomainValue f name first arity slot) = GoalKind.Apply (slice_index_or t.names name []) (operand_trees t first arity) slot
 node_kind t (Node.CallTerm first count) = GoalKind.Call (codes "call") (operand_trees t first count)
 
 -- a step as a cell of a goal

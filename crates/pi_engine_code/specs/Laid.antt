@@ -9,11 +9,14 @@ use Rattle.pi_core.specs.GoalCells.{kind_of}
 use Rattle.pi_core.specs.declared.goal_node.GoalKind.{GoalKind}
 use Rattle.pi_core.specs.declared.goal_node.GoalNode.{GoalNode}
 use Rattle.pi_core.specs.declared.core_program.CorePred.{CorePred}
-use Rattle.pi_effects.specs.BuiltIns.{is_function, is_predicate}
+use Rattle.pi_meaning.specs.Shared.Effects.{is_effect_name, is_value_name}
 use Rattle.pi_meaning.specs.Shared.Names.{is_call}
 use Rattle.pi_lib_builtin.specs.declared.predicates.Predicate.{Predicate}
 use Rattle.pi_lib_builtin.specs.Names.{may_bind}
 use Rattle.pi_lib_builtin.specs.Resolved.{IsFunctionNamed, IsPredicateNamed}
+use Rattle.pi_lib_constraints.specs.Functions.{function_name}
+use Rattle.pi_lib_constraints.specs.Named.{IsConstraintNamed}
+use Rattle.pi_lib_constraints.specs.declared.functions.DomainFunction.{DomainFunction}
 use Rattle.pi_engine_code.specs.declared.code.Operand.{Operand}
 use Rattle.pi_engine_code.specs.declared.code.Part.{Part}
 use Rattle.pi_engine_code.specs.declared.code.Node.{Node}
@@ -125,10 +128,10 @@ pub record IsNamed (preds : List CorePred) (function : Bool) (n : ℕ) (name : L
 abbrev pub IsUnnamed : List CorePred → Bool → List ℕ → ℕ → Type 0
 IsUnnamed preds function name k = (n : ℕ) → IsNamed preds function n name k → ⊥
 
--- no predicate or function of this name with so many arguments is built in, and it calls no term
+-- no predicate or function of this name with so many arguments is built, also not with constraints, and it calls no term
 abbrev pub IsNotBuiltIn : Bool → List ℕ → ℕ → Type 0
-IsNotBuiltIn false name k = (is_predicate name k ≡ false) × (is_call name k ≡ false)
-IsNotBuiltIn true name k = is_function name k ≡ false
+IsNotBuiltIn false name k = (is_effect_name name k ≡ false) × (is_call name k ≡ false)
+IsNotBuiltIn true name k = is_value_name name k ≡ false
 
 -- what is called isn't there
 abbrev pub IsUnknown : List CorePred → GoalKind → Type 0
@@ -139,6 +142,10 @@ IsUnknown preds kind = ⊥
 -- a built-in predicate does what a name does with so many arguments, and binds nothing
 abbrev pub IsEffectOf : List ℕ → ℕ → Predicate → Type 0
 IsEffectOf name k p = IsPredicateNamed name k p × (may_bind p ≡ false)
+
+-- a name with so many arguments is that of a function of domains
+abbrev pub IsDomainFunctionNamed : List ℕ → ℕ → DomainFunction → Type 0
+IsDomainFunctionNamed name k f = (name ≡ function_name f) × (k ≡ 1)
 
 -- ---- steps
 
@@ -166,6 +173,10 @@ IsNodeOf preds t k (Node.BuiltIn p n first arity) =
     (name : List ℕ) × (us : List Tree) × (k ≡ GoalKind.Call name us) × (slice_get t.names n ≡ Some name) × (arity ≡ length us) × IsEffectOf name (length us) p × OperandsAt t first us
 IsNodeOf preds t k (Node.BuiltInValue f n first arity slot) =
     (name : List ℕ) × (us : List Tree) × (k ≡ GoalKind.Apply name us slot) × (slice_get t.names n ≡ Some name) × (arity ≡ length us) × IsFunctionNamed name (length us) f × OperandsAt t first us
+IsNodeOf preds t k (Node.Constrain g n first arity) =
+    (name : List ℕ) × (us : List Tree) × (k ≡ GoalKind.Call name us) × (slice_get t.names n ≡ Some name) × (arity ≡ length us) × IsConstraintNamed name (length us) g × OperandsAt t first us
+IsNodeOf preds t k (Node.DomainValue f n first arity slot) =
+    (name : List ℕ) × (us : List Tree) × (k ≡ GoalKind.Apply name us slot) × (slice_get t.names n ≡ Some name) × (arity ≡ length us) × IsDomainFunctionNamed name (length us) f × OperandsAt t first us
 IsNodeOf preds t k (Node.CallTerm first arity) =
     (us : List Tree) × (k ≡ GoalKind.Call (codes "call") us) × (arity ≡ length us) × (is_call (codes "call") (length us) ≡ true) × OperandsAt t first us
 

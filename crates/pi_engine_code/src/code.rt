@@ -12,6 +12,7 @@ use crate::fact_keys::FactKeys;
 use pi_constraints::Ref;
 use pi_core::{CorePred, CorePreds, CoreProgram, Pattern};
 use pi_lib_builtin::{Function, Predicate as BuiltInPredicate};
+use pi_lib_constraints::{ConstraintGoal, DomainFunction};
 use pi_terms::Text;
 
 /// Where the term of a goal comes from.
@@ -66,6 +67,11 @@ pub enum Node {
     BuiltIn(BuiltInPredicate, u32, u32, u32),
     /// The same of a built-in function, and the slot that takes its value.
     BuiltInValue(Function, u32, u32, u32, u32),
+    /// A call of a goal of constraints: the place of its name among the names, where its arguments begin among the operands, and
+    /// how many they are.
+    Constrain(ConstraintGoal, u32, u32, u32),
+    /// The same of a function of domains, and the slot that takes its value.
+    DomainValue(DomainFunction, u32, u32, u32, u32),
     /// `call` of a term with more arguments: where these operands begin, and how many they are.
     CallTerm(u32, u32),
 }

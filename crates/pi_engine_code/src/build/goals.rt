@@ -15,6 +15,7 @@ use crate::code::{Code, Node, Step};
 use pi_constraints::StateStore;
 use pi_core::{CoreGoal, GoalNode};
 use pi_lib_builtin::{function_named, predicate_named};
+use pi_lib_constraints::{constraint_named, domain_function_named};
 use pi_meaning::is_call;
 use pi_terms::{Args, Term, Text};
 use std::alloc::AllocError;
@@ -133,7 +134,8 @@ impl Builder<'_> {
         }
     }
 
-    /// A call: of a term, of a built-in predicate, or of one that has a number. A name that is neither is no sound program's.
+    /// A call: of a term, of a built-in predicate, of a goal of constraints, or of a predicate that has a number. A name that is
+    /// none of these is no sound program's.
     fn call_of<S: StateStore>(
         &self,
         code: &mut Code<'_>,
@@ -164,6 +166,11 @@ impl Builder<'_> {
             let count = short(args.len())?;
             return Ok(Node::BuiltIn(predicate, name, operands, count));
         }
+        if let Some(goal) = constraint_named(name.as_str(), args.len()) {
+            let name = self.add_name(&mut code.names, name)?;
+            let count = short(args.len())?;
+            return Ok(Node::Constrain(goal, name, operands, count));
+        }
         match self.numbers.get(false, name, args.len())? {
             Some(number) => Ok(Node::Call(number, operands)),
             None => Ok(Node::Fail),
@@ -189,6 +196,11 @@ impl Builder<'_> {
             let name = self.add_name(&mut code.names, name)?;
             let count = short(args.len())?;
             return Ok(Node::BuiltInValue(function, name, operands, count, slot));
+        }
+        if let Some(function) = domain_function_named(name.as_str(), args.len()) {
+            let name = self.add_name(&mut code.names, name)?;
+            let count = short(args.len())?;
+            return Ok(Node::DomainValue(function, name, operands, count, slot));
         }
         match self.numbers.get(true, name, args.len())? {
             Some(number) => Ok(Node::Apply(number, operands, slot)),

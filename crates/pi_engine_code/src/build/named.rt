@@ -20,6 +20,28 @@ use pi_lib_builtin::predicate_names;
 use pi_meaning::goal_by_name;
 use std::alloc::{AllocError, Global};
 
+/// The names of goals of constraints, each with its number of arguments.
+const CONSTRAINT_NAMES: [(&'static str, u32); 18] = [
+    ("::", 2),
+    ("notin", 2),
+    ("#=", 2),
+    ("#!=", 2),
+    ("#<", 2),
+    ("#=<", 2),
+    ("#<=", 2),
+    ("#>", 2),
+    ("#>=", 2),
+    ("#~", 1),
+    ("#/\\", 2),
+    ("#\\/", 2),
+    ("#^", 2),
+    ("#=>", 2),
+    ("#<=>", 2),
+    ("all_different", 1),
+    ("all_distinct", 1),
+    ("element", 3),
+];
+
 impl Builder<'_> {
     /// Adds the goals by which names are called, and answers their places.
     pub(super) fn add_callables<S: StateStore>(
@@ -102,6 +124,7 @@ fn callable_names<'n>(
     ensures { IfOk result (λ made. AreNamed (preds.now ++ helpers.now) (rows_shown made.items)) }
 {
     let mut names = predicate_names(alloc)?;
+    names.extend_from_slice(&CONSTRAINT_NAMES)?;
     names.push(("catch", 3))?;
     for more in 0..8 {
         names.push(("call", more + 1))?;
