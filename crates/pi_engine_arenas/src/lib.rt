@@ -9,4 +9,4 @@ mod run;
 pub use arenas::{Arenas, Back, Entry, Kind, Strict, behind, behind_level};
 pub use blocks::{Blocks, BlocksMark, Written};
 pub use frames::{Call, Frames, Point};
-pub use run::{End, Now, Run, Telling};
+pub use run::{End, Now, Run, Settling, Telling};

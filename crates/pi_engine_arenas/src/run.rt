@@ -4,13 +4,14 @@ ghost use Rattle.std.specs.Global.{Global};
 ghost use Rattle.pi_terms.specs.Tree.{Tree};
 ghost use Rattle.pi_engine_arenas.specs.declared.run.Now.{Now};
 ghost use Rattle.pi_engine_arenas.specs.declared.run.Now.TheVariants.{Raising};
+ghost use Rattle.pi_engine_arenas.specs.declared.run.Settling.{Settling};
 ghost use Rattle.pi_engine_arenas.specs.declared.run.Telling.{Telling};
 ghost use Rattle.pi_engine_arenas.specs.Arenas.{view_of};
 ghost use Rattle.pi_engine_arenas.specs.Arenas.{no_arenas};
 
 use crate::arenas::Arenas;
 use crate::frames::Point;
-use pi_constraints::{Ref, StateStore};
+use pi_constraints::{Places, Ref, StateStore};
 use pi_terms::{Term, Text};
 use pi_unify::Slots;
 use std::alloc::Global;
@@ -32,10 +33,19 @@ pub struct Telling {
     pub point: Point,
 }
 
+/// The constraints that are due before goals go on.
+#[derive(Drop)]
+pub struct Settling {
+    pub due: Places,
+    pub point: Point,
+}
+
 /// What a run is about to do.
 pub enum Now {
     Going(Point),
-    /// A text is told next. It is boxed, so that no other step moves the room for it.
+    /// A state is settled next. It is boxed, so that no other step moves the room for it.
+    Settling(Box<Settling>),
+    /// A text is told next. It is boxed too.
     Telling(Box<Telling>),
     /// The newest entry is next.
     Failing,
@@ -50,6 +60,7 @@ impl Drop for Now {
     fn drop(self) {
         match self {
             Now::Going(_) => {}
+            Now::Settling(_) => {}
             Now::Telling(_) => {}
             Now::Failing => {}
             Now::Raising(_) => {}
@@ -67,6 +78,7 @@ impl Now {
         match self {
             Now::Raising(ball) => Some(ball),
             Now::Going(_) => None,
+            Now::Settling(_) => None,
             Now::Telling(_) => None,
             Now::Failing => None,
             Now::Ended(_) => None,
@@ -81,6 +93,22 @@ impl Now {
         match self {
             Now::Telling(told) => Some(told),
             Now::Going(_) => None,
+            Now::Settling(_) => None,
+            Now::Failing => None,
+            Now::Raising(_) => None,
+            Now::Ended(_) => None,
+        }
+    }
+
+    /// What is settled, where something is.
+    pub fn into_settling(self) -> Option<Box<Settling>>
+        ensures settles { (it : Box Settling Global) → self ≡ Now.Settling it → result ≡ Some it }
+        ensures is { IfSome result (λ it. self ≡ Now.Settling it) }
+    {
+        match self {
+            Now::Settling(it) => Some(it),
+            Now::Going(_) => None,
+            Now::Telling(_) => None,
             Now::Failing => None,
             Now::Raising(_) => None,
             Now::Ended(_) => None,

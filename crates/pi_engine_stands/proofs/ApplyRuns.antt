@@ -11,7 +11,7 @@ use Rattle.pi_meaning.specs.Shared.View.{View}
 use Rattle.pi_meaning.specs.Shared.Names.{is_given}
 use Rattle.pi_core.specs.CoreTree.{find_pred, PredTree}
 use Rattle.pi_constraints.specs.Evaluation.{EvaluatedAll, evaluated_all}
-use Rattle.pi_effects.specs.BuiltIns.{is_function}
+use Rattle.pi_meaning.specs.Shared.Effects.{is_value_name}
 use Rattle.pi_core.specs.GoalTree.{GoalTree, GoalTrees, apply, goal, nodes}
 use Rattle.pi_constraints.specs.declared.store.Ref.{Ref}
 use Rattle.pi_engine_arenas.specs.declared.frames.Point.{Point}
@@ -122,7 +122,7 @@ apply-made w u mark p s n q base arity into pred predicate args ts e k es stands
     let held : HoldsArguments w.store.now.terms w.arenas.blocks.slots base (length args) ts = subst (λ m. HoldsArguments w.store.now.terms w.arenas.blocks.slots base m ts) (sym many) holds in
     let block : block_at w.loaded p.place p.base ≡ in_it.block = block-of-step w.loaded in_it.block p.place p.base (apply pred.name args into) in_it.at.own s in_it.at.here in_it.base at in
     let is : KindIs w.loaded w.arenas.collected (now_here w) w.store.now.state base n slots (length w.arenas.collected) (length w.arenas.collected) kind y =
-    apply_kind (goal-stands w p n s (apply pred.name args into) e k at in_it) (ap (is_function pred.name) many ∙ not_built) held (subst (λ b. block_end b ≤ base) (sym block) below) refl in
+    apply_kind (goal-stands w p n s (apply pred.name args into) e k at in_it) (ap (is_value_name pred.name) many ∙ not_built) held (subst (λ b. block_end b ≤ base) (sym block) below) refl in
     let entered : StackStands after (y ∷ es) =
     stack-entered w u mark base n (length w.arenas.collected) kind y es stands marks in_it.agrees refl (kept-within w es stands) (omega arith) stands.stack is in
     let level : w.arenas.level ≤ length (entries_of w) = omega (arith, stands.level, open_level-within zero es, stack-length w (length (entries_of w)) (length w.arenas.collected) es stands.stack) in

@@ -63,6 +63,8 @@ collect-node t (Node.Unify left right) g v i h = absurd cc
 collect-node t (Node.Throw ball) g v i h = absurd cc
 collect-node t (Node.BuiltIn built name first arity) g v i h = absurd cc
 collect-node t (Node.BuiltInValue built name first arity slot) g v i h = absurd cc
+collect-node t (Node.Constrain c name first arity) g v i h = absurd cc
+collect-node t (Node.DomainValue f name first arity slot) g v i h = absurd cc
 collect-node t (Node.Call p first) g v i h = absurd cc
 collect-node t (Node.Apply p first q) g v i h = absurd cc
 collect-node t (Node.Value u) g v i h = absurd cc
@@ -214,7 +216,7 @@ collect-answers w v a b now i place first begins slot value other step code r x 
     (reads d col.value f (slot_is ∙ ap (λ n. slot_number n value) slots_begin ∙ ap (slot_number (slot_number d.base d.first)) same) readable.0 holds) in
     let sound : Rests v.now.state = subst Rests (sym got_it.writes.state) (evaluated-rests (var col.value) f w.store.now.state stands.entries.state) in
     let told : CollectedAs (slot_value col.value f w.store.now.state) a b now =
-    subst (λ q. CollectedAs (value_of (bindings q) read.tree) a b now) got_it.writes.state (tells read.tree got_it.term sound.state.acyclic) in
+    subst (λ q. CollectedAs (value_of (bindings q) read.tree) a b now) got_it.writes.state (tells read.tree got_it.term sound.calm.state.acyclic) in
     let entries : StackStands (moved w v a) (it.above ++ strict it.level it.back ∷ it.below) =
     subst (StackStands (moved w v a)) lies.whole (stack-moved w v a d read.slots read.state es got_it.writes sound stands.entries) in
     subst (Stands (moved w v b) now) (sym (list-step col.value col.into (values_between w.arenas.collected it.from top) it.level f w.store.now.state it.above it.back it.below col.level))

@@ -1,10 +1,10 @@
 -- A goal whose operands were evaluated, and what follows it.
 use Rattle.std.proofs.Common.{◌≡◌, ℕ, ◌+◌, ◌-◌, ◌^◌, ◌<◌, Bool, true, false, List, [], ◌∷◌, Option, Some, None, refl, sym, ◌∙◌, ap, subst, arith}
-use Rattle.std.specs.Prelude.{slice_get, codes, if◌then◌else◌}
+use Rattle.std.specs.Prelude.{slice_get, codes}
 use Rattle.pi_terms.specs.Tree.{Tree}
 use Rattle.pi_terms.specs.Places.{Places}
 use Rattle.pi_meaning.specs.Shared.View.{View}
-use Rattle.pi_constraints.specs.State.{State, bindings, IsState}
+use Rattle.pi_constraints.specs.State.{State, bindings}
 use Rattle.pi_engine_stands.specs.Rests.{Rests}
 use Rattle.pi_constraints.specs.Value.{value}
 use Rattle.pi_constraints.specs.Store.{StoreView, Keeps}
@@ -38,9 +38,10 @@ use Rattle.pi_constraints.proofs.StateLemmas.{extends}
 use Rattle.pi_engine_stands.proofs.SlotsStand.{writes-none, writes-then}
 use Rattle.pi_engine_stands.proofs.WritesStand.{WritesTo, stack-written, going-written, lies-written}
 use Rattle.pi_engine_stands.proofs.CallLemmas.{call-of, after_equal, equal-comes-to, throw-comes-to}
-use Rattle.pi_engine_stands.proofs.RestLemmas.{evaluated-rests, answered-rests}
 use Rattle.pi_engine_stands.proofs.StacksLie.{stack-lies}
-use Rattle.pi_engine_stands.proofs.SettlesFirst.{settling-rests}
+use Rattle.pi_engine_settle.specs.Settles.{LeftBy}
+use Rattle.pi_engine_stands.specs.Settling.{NextAfter}
+use Rattle.pi_engine_stands.proofs.SettlesFirst.{goes-on-to}
 
 -- ---- a goal that stands at a step
 
@@ -120,10 +121,15 @@ stack-moved w v c b f s es writes state is =
 pub lies-moved : {M : Type 0} (w : World M) (v : StoreView M) (c : ArenasView M) (b : Block) (f : Places) (s : State) (es : List EntryData) → Writes b (between w.store v w.arenas c) f s → StackLies w es → StackLies (moved w v c) es
 lies-moved w v c b f s es writes is = subst (λ r. StackLies (moved w v r) es) (sym writes.rest) (lies-written w v c.blocks b f s es (writes-to w v c b f s writes) is)
 
+pub going-lies : {M : Type 0} (w : World M) (v : StoreView M) (c : ArenasView M) (p : Point) (gs : GoalTrees) (e f : Places) (s : State) (k : List Frame) (es : List EntryData) → StackLies w es →
+    (is : GoingIs w p gs e k) → Writes is.block (between w.store v w.arenas c) f s → GoingIs (moved w v c) p gs f k
+going-lies w v c p gs e f s k es lies is writes =
+    subst (λ r. GoingIs (moved w v r) p gs f k) (sym writes.rest) (going-written w v c.blocks p gs e f s k es lies is (writes-to w v c is.block f s writes))
+
 pub going-moved : {M : Type 0} (w : World M) (v : StoreView M) (c : ArenasView M) (p : Point) (gs : GoalTrees) (e f : Places) (s : State) (k : List Frame) (es : List EntryData) → StackStands w es →
     (is : GoingIs w p gs e k) → Writes is.block (between w.store v w.arenas c) f s → GoingIs (moved w v c) p gs f k
 going-moved w v c p gs e f s k es stands is writes =
-    subst (λ r. GoingIs (moved w v r) p gs f k) (sym writes.rest) (going-written w v c.blocks p gs e f s k es stands is (writes-to w v c is.block f s writes))
+    going-lies w v c p gs e f s k es (stack-lies w es stands) is writes
 
 -- ---- two terms are made equal
 
@@ -132,18 +138,18 @@ abbrev pub block_of : {M : Type 0} (w : World M) (p : Point) (g : GoalTree) (gs 
 block_of w p g gs e k es stands = (going-of w p (goal g gs) e w.store.now.state k stands.runs).block
 
 equal-by : {M : Type 0} (w : World M) (v : StoreView M) (c : ArenasView M) (p : Point) (s : Step) (g : GoalTree) (gs : GoalTrees) (e f : Places) (k : List Frame) (es : List EntryData) (before : State) (o : Option State) (one : Bool) (now : Now) →
-    slice_get (steps_of w.loaded) p.place ≡ Some s → StackStands w es → (is : GoingIs w p (goal g gs) e k) → Writes is.block (between w.store v w.arenas c) f v.now.state → (one ≡ true → Rests v.now.state) →
-    Answers o one v.now.state → now ≡ (if one then Now.Going (point_behind p s) else Now.Failing) → Stands (moved w v c) now (config (after_equal before o gs f k) es)
-equal-by w v c p s g gs e f k es before None one now at entries is writes state answers next =
-    subst (λ r. Stands (moved w v c) r (config (after_equal before None gs f k) es)) (sym (next ∙ ap (λ q. if q then Now.Going (point_behind p s) else Now.Failing) answers))
+    slice_get (steps_of w.loaded) p.place ≡ Some s → StackStands w es → (is : GoingIs w p (goal g gs) e k) → Writes is.block (between w.store v w.arenas c) f v.now.state → (one ≡ true → LeftBy before v.now.state) →
+    Answers o one v.now.state → NextAfter one before v.now.state (point_behind p s) now → Stands (moved w v c) now (config (after_equal before o gs f k) es)
+equal-by w v c p s g gs e f k es before None one now at entries is writes left answers next =
+    subst (λ r. Stands (moved w v c) r (config (after_equal before None gs f k) es)) (sym (subst (λ q. NextAfter q before v.now.state (point_behind p s) now) answers next))
     (record { entries = lies-moved w v c is.block f v.now.state es writes (stack-lies w es entries); runs = failing_now })
-equal-by w v c p s g gs e f k es before (Some r) one now at entries is writes state answers next =
-    subst (λ q. Stands (moved w v c) q (config (after_equal before (Some r) gs f k) es)) (sym (next ∙ ap (λ q. if q then Now.Going (point_behind p s) else Now.Failing) answers.0))
-    (record {
-      entries = stack-moved w v c is.block f v.now.state es writes (state answers.0) entries;
-      runs = subst (λ q. NowIs (moved w v c) (Now.Going (point_behind p s)) (after_equal before (Some q) gs f k)) answers.1
-          (settling-rests (moved w v c) (point_behind p s) before gs f k (state answers.0) (going-behind (moved w v c) p s g gs f k at (going-moved w v c p (goal g gs) e f v.now.state k es entries is writes)));
-    })
+equal-by w v c p s g gs e f k es before (Some r) one now at entries is writes left answers next =
+    record {
+      entries = lies-moved w v c is.block f v.now.state es writes (stack-lies w es entries);
+      runs = subst (λ q. NowIs (moved w v c) now (after_equal before (Some q) gs f k)) answers.1
+          (goes-on-to (moved w v c) (point_behind p s) before gs f k now (left answers.0) (going-behind (moved w v c) p s g gs f k at (going-moved w v c p (goal g gs) e f v.now.state k es entries is writes))
+          (subst (λ q. NextAfter q before v.now.state (point_behind p s) now) answers.0 next));
+    }
 
 -- both operands evaluated, one after the other
 pub both-evaluated : {M : Type 0} (b : Block) (v1 v2 v3 : StoreView M) (a1 a2 a3 : ArenasView M) (l r : Tree) (e : Places) (q1 q2 : Ref) →
@@ -161,10 +167,10 @@ pub equal-step : {M : Type 0} (w : World M) (v u : StoreView M) (c : ArenasView 
     s.node ≡ Node.Unify left right → slice_get (steps_of w.loaded) p.place ≡ Some s → (stands : StandsGoing w p (goal g gs) e k es) →
     let x : Evaluated = evaluated (operand_tree (tables_in w.loaded) left) e w.store.now.state in
     let y : Evaluated = evaluated (operand_tree (tables_in w.loaded) right) x.slots x.state in
-    Evaluates (block_of w p g gs e k es stands) (between w.store v w.arenas c) y q → Keeps v u → Answers (unified y.state x.tree y.tree) one u.now.state → IsState u.now.state →
-    now ≡ (if one then Now.Going (point_behind p s) else Now.Failing) → StandsAfter (moved w u c) now (goal_step view w.loaded.preds g e w.store.now.state (with_rest gs k es))
+    Evaluates (block_of w p g gs e k es stands) (between w.store v w.arenas c) y q → Keeps v u → Answers (unified y.state x.tree y.tree) one u.now.state → (one ≡ true → LeftBy y.state u.now.state) →
+    NextAfter one y.state u.now.state (point_behind p s) now → StandsAfter (moved w u c) now (goal_step view w.loaded.preds g e w.store.now.state (with_rest gs k es))
 unfolding node_kind
-equal-step w v u c p s left right q one now view g gs e k es node at stands both keeps answers state next =
+equal-step w v u c p s left right q one now view g gs e k es node at stands both keeps answers leaves next =
     let is : GoingIs w p (goal g gs) e k = going-of w p (goal g gs) e w.store.now.state k stands.runs in
     let l : Tree = operand_tree (tables_in w.loaded) left in
     let r : Tree = operand_tree (tables_in w.loaded) right in
@@ -175,15 +181,7 @@ equal-step w v u c p s left right q one now view g gs e k es node at stands both
     writes-then is.block w.store v u w.arenas c c y.slots y.slots y.state u.now.state both.writes (writes-kept is.block v u c y.slots keeps both.writes.holds) in
     subst (λ h. StandsAfter (moved w u c) now (goal_step view w.loaded.preds h e w.store.now.state (with_rest gs k es))) (sym it)
     (subst (λ h. StandsAfter (moved w u c) now h) (sym (equal-comes-to view w.loaded.preds l r gs e w.store.now.state k es))
-    (equal-by w u c p s g gs e y.slots k es y.state (unified y.state x.tree y.tree) one now at stands.entries is all
-    (λ so. answered-rests y.state u.now.state x.tree y.tree one (evaluated-rests r x.slots x.state (evaluated-rests l e w.store.now.state stands.entries.state)) state answers so) answers next))
-
--- what is next
-pub goes-on : (one : Bool) (now : Now) (p : Point) → one ≡ true → now ≡ Now.Going p → now ≡ (if one then Now.Going p else Now.Failing)
-goes-on one now p is next = next ∙ ap (λ q. if q then Now.Going p else Now.Failing) (sym is)
-
-pub fails : (one : Bool) (now : Now) (p : Point) → one ≡ false → now ≡ Now.Failing → now ≡ (if one then Now.Going p else Now.Failing)
-fails one now p is next = next ∙ ap (λ q. if q then Now.Going p else Now.Failing) (sym is)
+    (equal-by w u c p s g gs e y.slots k es y.state (unified y.state x.tree y.tree) one now at stands.entries is all leaves answers next))
 
 -- ---- an exception is raised
 

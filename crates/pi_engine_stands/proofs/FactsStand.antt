@@ -1,9 +1,9 @@
 -- The facts of a call, tried from one on.
 use Rattle.std.proofs.Common.{◌≡◌, ℕ, zero, ◌+◌, ◌-◌, ◌≤◌, Bool, true, false, List, [], ◌∷◌, Option, Some, None, length, drop, refl, sym, ◌∙◌, ap, subst, arith}
-use Rattle.std.specs.Prelude.{slice_get, cond, is_some, if◌then◌else◌}
+use Rattle.std.specs.Prelude.{slice_get, cond, is_some}
 use Rattle.std.proofs.lemmas.List.{take_all, drop-drop}
 use Rattle.pi_terms.specs.Tree.{Trees}
-use Rattle.pi_constraints.specs.State.{State, IsState}
+use Rattle.pi_constraints.specs.State.{State}
 use Rattle.pi_engine_stands.specs.Rests.{Rests}
 use Rattle.pi_constraints.specs.Store.{StoreView, Keeps, Stays}
 use Rattle.pi_core.specs.GoalTree.{no_goals}
@@ -31,10 +31,12 @@ use Rattle.pi_engine_stands.proofs.CallKept.{Makes, call-kept}
 use Rattle.pi_engine_stands.proofs.RulesTaken.{StackAfter, stack-kept, entry-gone, entry-none}
 use Rattle.pi_engine_stands.proofs.CallsTried.{call-ended}
 use Rattle.pi_engine_stands.proofs.CallsStay.{call-stays}
-use Rattle.pi_engine_stands.proofs.EqualStands.{writes-kept, stack-moved, going-moved}
+use Rattle.pi_engine_stands.proofs.EqualStands.{writes-kept, lies-moved, going-moved}
+use Rattle.pi_engine_stands.proofs.StacksLie.{stack-lies}
 use Rattle.pi_engine_arenas.specs.Frames.{call_at}
-use Rattle.pi_engine_stands.proofs.RestLemmas.{fact-rests}
-use Rattle.pi_engine_stands.proofs.SettlesFirst.{settling-rests}
+use Rattle.pi_engine_settle.specs.Settles.{LeftBy}
+use Rattle.pi_engine_stands.specs.Settling.{GoesOnTo, NextAfter}
+use Rattle.pi_engine_stands.proofs.SettlesFirst.{goes-on-to}
 
 -- ---- the machine as data
 
@@ -91,10 +93,10 @@ nothing-goes w v a m p base frame number called cs s k es again is predicate pas
       agrees = agrees-pass w v a m es passes stack within is.agrees;
     }
 
-pub fact-stands : {M : Type 0} (w : World M) (v u : StoreView M) (a : ArenasView M) (p base frame number : ℕ) (called : Called) (cs : List ClauseTree) (s before : State) (k : List Frame) (es all : List EntryData) (again : Bool) →
-    CallIs w p base frame number called cs s k es again → called.function ≡ false → StackAfter w v a es all → open_level 0 all ≡ open_level 0 es → Keeps v u → Rests u.now.state →
-    Stands (moved w u a) (Now.Going (record { place = 0; count = 0; base = base; frame = frame })) (config (settling before u.now.state no_goals [] k) all)
-fact-stands w v u a p base frame number called cs s before k es all again is predicate after opens keeps state =
+pub fact-stands : {M : Type 0} (w : World M) (v u : StoreView M) (a : ArenasView M) (p base frame number : ℕ) (called : Called) (cs : List ClauseTree) (s before : State) (k : List Frame) (es all : List EntryData) (again : Bool) (now : Now) →
+    CallIs w p base frame number called cs s k es again → called.function ≡ false → StackAfter w v a es all → open_level 0 all ≡ open_level 0 es → Keeps v u → LeftBy before u.now.state →
+    GoesOnTo before u.now.state (record { place = 0; count = 0; base = base; frame = frame }) now → Stands (moved w u a) now (config (settling before u.now.state no_goals [] k) all)
+fact-stands w v u a p base frame number called cs s before k es all again now is predicate after opens keeps left goes =
     let point : Point = record { place = 0; count = 0; base = base; frame = frame } in
     let w1 : World _ = moved w v a in
     let entries : StackStands w1 all =
@@ -109,8 +111,8 @@ fact-stands w v u a p base frame number called cs s before k es all again is pre
     let runs : GoingIs w1 point no_goals [] k = nothing-goes w v a after.below p base frame number called cs s k es again is predicate after.passes after.under in
     let writes : Writes runs.block (between v u a a) [] u.now.state = writes-kept runs.block v u a [] keeps runs.behind.slots in
     record {
-      entries = stack-moved w1 u a runs.block [] u.now.state all writes state entries;
-      runs = settling-rests (moved w u a) point before no_goals [] k state (going-moved w1 u a point no_goals [] [] u.now.state k all entries runs writes);
+      entries = lies-moved w1 u a runs.block [] u.now.state all writes (stack-lies w1 all entries);
+      runs = goes-on-to (moved w u a) point before no_goals [] k now left (going-moved w1 u a point no_goals [] [] u.now.state k all entries runs writes) goes;
     }
 
 -- ---- what is left of a call
@@ -234,9 +236,9 @@ behind-of cs behind c first number low here = sym (ap (drop 1) here) ∙ drop-dr
 pub fact-taken : {M : Type 0} (w : World M) (v x u : StoreView M) (b : ArenasView M) (p base frame from number slots : ℕ) (pred : PredTree) (predicate : Predicate) (ts : Trees) (cs : List ClauseTree) (s : State) (k : List Frame) (es : List EntryData) (again : Bool)
     (next : Option ℕ) (one : Bool) (now : Now) → (is : CallIs w p base frame from (record { function = false; args = ts }) cs s k es again) → s ≡ w.store.now.state → Stays w.store v → slice_get w.loaded.preds p ≡ Some pred → slice_get w.loaded.code.predicates.items p ≡ Some predicate →
     predicate.first ≤ from → slots ≡ base + is.call.call.pred.arity → (found : IsFirst ts s (numbered pred.clauses predicate.first predicate.end) from number) → IsNext ts s (numbered pred.clauses predicate.first predicate.end) (number + 1) next →
-    LeavesLater w.order (between v x w.arenas b) (call_at p base frame) slots again next → Keeps x u → Answers (with_fact ts x.now.state found.fact) one u.now.state → (one ≡ true → IsState u.now.state) →
-    now ≡ (if one then Now.Going (record { place = 0; count = 0; base = base; frame = frame }) else Now.Failing) → Stands (moved w u b) now (try_facts ts cs (back_to [] s k) es)
-fact-taken w v x u b p base frame from number slots pred predicate ts cs s k es again next one now is same stays at there low fits found later leaves keeps answers state comes =
+    LeavesLater w.order (between v x w.arenas b) (call_at p base frame) slots again next → Keeps x u → Answers (with_fact ts x.now.state found.fact) one u.now.state → (one ≡ true → LeftBy x.now.state u.now.state) →
+    NextAfter one x.now.state u.now.state (record { place = 0; count = 0; base = base; frame = frame }) now → Stands (moved w u b) now (try_facts ts cs (back_to [] s k) es)
+fact-taken w v x u b p base frame from number slots pred predicate ts cs s k es again next one now is same stays at there low fits found later leaves keeps answers left comes =
     let called : Called = record { function = false; args = ts } in
     let point : Point = record { place = 0; count = 0; base = base; frame = frame } in
     let w1 : World _ = moved w v w.arenas in
@@ -251,7 +253,7 @@ fact-taken w v x u b p base frame from number slots pred predicate ts cs s k es 
     facts-some ts cs found.behind found.fact found.state (back_to [] s k) es (ap (from_unifying ts s) (facts-left w p base frame from called cs s k es again pred predicate is at there) ∙ found.found) found.unifies
     ∙ ap (λ ds. config (settling s found.state no_goals [] k) (later_facts ts (from_unifying ts s ds) (back_to [] s k) es)) behind in
     subst (Stands (moved w u b) now) (sym whole)
-    (subst (λ n. Stands (moved w u b) n (config (settling s found.state no_goals [] k) (later_facts ts rest (back_to [] s k) es))) (sym (comes ∙ ap (λ q. if q then Now.Going point else Now.Failing) told.0))
-    (subst (λ r. Stands (moved w u b) (Now.Going point) (config (settling s r no_goals [] k) (later_facts ts rest (back_to [] s k) es))) told.1
-    (fact-stands w1 x u b p base frame from called cs s s k es (later_facts ts rest (back_to [] s k) es) again is1 refl kept.after kept.opens keeps
-    (subst Rests (sym told.1) (fact-rests ts s found.state found.fact found.unifies (subst IsState told.1 (state told.0)) (subst Rests (sym same) is.state))))))
+    (subst (λ r. Stands (moved w u b) now (config (settling s r no_goals [] k) (later_facts ts rest (back_to [] s k) es))) told.1
+    (fact-stands w1 x u b p base frame from called cs s s k es (later_facts ts rest (back_to [] s k) es) again now is1 refl kept.after kept.opens keeps
+    (subst (λ q. LeftBy q u.now.state) here (left told.0))
+    (subst (λ q. GoesOnTo q u.now.state point now) here (subst (λ q. NextAfter q x.now.state u.now.state point now) told.0 comes))))

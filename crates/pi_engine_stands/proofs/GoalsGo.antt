@@ -1,6 +1,6 @@
 -- Goals that are run, as parts of a run: by the Ticks that they count.
 use Rattle.std.proofs.Common.{◌≡◌, ◌≢◌, ℕ, ◌+◌, ◌≤◌, ◌<◌, ◌^◌, Bool, true, false, List, [], ◌∷◌, Option, Some, None, length, refl, sym, ◌∙◌, ap, subst, arith}
-use Rattle.std.specs.Prelude.{slice_get}
+use Rattle.std.specs.Prelude.{slice_get, pos, negsuc, ℤ}
 use Rattle.pi_terms.specs.Tree.{Tree}
 use Rattle.pi_terms.specs.Places.{Places}
 use Rattle.pi_meaning.specs.Shared.View.{View}
@@ -27,9 +27,12 @@ use Rattle.pi_meaning.specs.Machine.Built.{AreOfRules}
 use Rattle.pi_meaning.specs.Machine.Leads.{Leads}
 use Rattle.pi_meaning.specs.Machine.Next.{some_ticks}
 use Rattle.pi_engine_stands.specs.Here.{Block, AreHere, none_here, value_here}
-use Rattle.pi_engine_stands.specs.Stands.{IsNumberOf, HasNumber, IsCodeOf, tables_in, World, steps_of, NowIs, going_now, telling_now, failing_now, raising_now, StackBelow, Stands, StandsGoing, GoingIs, settling_now}
+use Rattle.pi_engine_stands.specs.Stands.{IsNumberOf, HasNumber, IsCodeOf, tables_in, World, steps_of, NowIs, going_now, telling_now, due_now, failing_now, raising_now, StackBelow, Stands, StandsGoing, GoingIs, settling_now}
 use Rattle.pi_engine_stands.specs.Makes.{StandsAfter, RunsGoal, RunsGoalIn, SilentlyTo, already}
-use Rattle.pi_engine_stands.specs.Goes.{counted, spent, TicksUnless, HasNone, IsAt, Goes, IsSpent, TicksOn, AtGoal, GoalGoes, IsSilent, counting}
+use Rattle.pi_engine_stands.specs.Views.{Fits}
+use Rattle.pi_meaning.specs.Shared.Within.{is_body}
+use Rattle.pi_meaning.specs.Machine.Budget.{AreStepsUsed, IsWorkUsed}
+use Rattle.pi_engine_stands.specs.Goes.{counted, spent, TicksUnless, HasNone, IsWorkIn, IsAt, Goes, IsSpent, TicksOn, AtGoal, GoalGoes, IsSilent, counting}
 use Rattle.pi_engine_stands.proofs.FramesStand.{going-of, going-size}
 use Rattle.pi_engine_stands.proofs.EqualStands.{kind-of-node, going-behind, node-readable}
 use Rattle.pi_engine_code.specs.declared.code.Predicate.{Predicate}
@@ -41,14 +44,15 @@ use Rattle.pi_engine_stands.proofs.ApplyRuns.{Applies, applies, apply-form}
 use Rattle.pi_meaning.proofs.Machine.LeadLemmas.{leads-none, leads-silent, step-silent, step-ticks, step-enters, step-at_tick, good-silent, good-tick, step-deepens, good-deeper}
 use Rattle.pi_meaning.proofs.Machine.GoodSteps.{step-good}
 use Rattle.pi_engine_stands.specs.Changes.{change}
-use Rattle.pi_engine_stands.proofs.StacksLie.{stack-lies, below-lies}
+use Rattle.pi_engine_stands.proofs.StacksLie.{stack-lies, below-lies, lies-stand}
 use Rattle.pi_engine_stands.proofs.SettlesFirst.{settles-first, ticks-behind}
 
 -- ---- where a run is
 
 ended-not : {M : Type 0} (w : World M) (now : Now) (e : RunEnd) (x : NowData) (X : Type 0) → now ≡ Now.Ended e → NowIs w now x → X
 ended-not w now e x X same (going_now is) = absurd cc
-ended-not w now e x X same (settling_now is none) = absurd cc
+ended-not w now e x X same (settling_now is rests none) = absurd cc
+ended-not w now e x X same (due_now is left due) = absurd cc
 ended-not w now e x X same (telling_now is) = absurd cc
 ended-not w now e x X same failing_now = absurd cc
 ended-not w now e x X same raising_now = absurd cc
@@ -58,6 +62,7 @@ no-end w e x X is = ended-not w (Now.Ended e) e x X refl is
 
 pub is-at : {M : Type 0} (v : View) (names : List NameSlot) (w : World M) (now : Now) (c : Config) → Stands w now c → IsAt v names w now c
 is-at v names w (Now.Going p) c stands = stands
+is-at v names w (Now.Settling it) c stands = stands
 is-at v names w (Now.Telling told) c stands = stands
 is-at v names w Now.Failing c stands = stands
 is-at v names w (Now.Raising ball) c stands = stands
@@ -72,14 +77,15 @@ none-counted (Mode.Inner rest) old new same = omega (arith, ap (λ b. b.work.goa
 -- a run that stands for a configuration has not ended
 pub unspent : {M : Type 0} (w : World M) (mode : Mode) (b : Budget) (now : Now) (c : Config) → Stands w now c → IsSpent mode b now
 unspent w mode b (Now.Going p) c stands = tt
+unspent w mode b (Now.Settling it) c stands = tt
 unspent w mode b (Now.Telling told) c stands = tt
 unspent w mode b Now.Failing c stands = tt
 unspent w mode b (Now.Raising ball) c stands = tt
 unspent w mode b (Now.Ended e) c stands = no-end w e c.now (IsSpent mode b (Now.Ended e)) stands.runs
 
 spent-is : (mode : Mode) (old new : Budget) (now : Now) → new ≡ old → now ≡ Now.Ended (spent mode) → HasNone mode old → IsSpent mode new now
-spent-is Mode.Top old new now same ended none = subst (IsSpent Mode.Top new) (sym ended) (refl, subst (HasNone Mode.Top) (sym same) none)
-spent-is (Mode.Inner rest) old new now same ended none = subst (IsSpent (Mode.Inner rest) new) (sym ended) (tt, subst (HasNone (Mode.Inner rest)) (sym same) none)
+spent-is Mode.Top old new now same ended none = subst (IsSpent Mode.Top new) (sym ended) (refl, subst AreStepsUsed (sym same) none)
+spent-is (Mode.Inner rest) old new now same ended none = subst (IsSpent (Mode.Inner rest) new) (sym ended) (subst IsWorkUsed (sym same) none)
 
 -- no Tick is counted
 pub silent-ticks : {M : Type 0} (v : View) (names : List NameSlot) (mode : Mode) (b : Budget) (after : World M) (now : Now) (c : Config) → Goes v names [] after now c → IsSpent mode b now → TicksOn v names mode b b after now c
@@ -116,16 +122,16 @@ there w p s x es at some no_value entries (going_now {gs = no_goals} {e = e} {k 
     no-goal (tables_in w.loaded) (steps_of w.loaded) is.block p.place p.count is.value is.last s _ at some no_value is.goals
 there w p s x es at some no_value entries (going_now {gs = goal g gs} {e = e} {k = k} is) =
     record { g = g; gs = gs; e = e; k = k; steps = λ v names. already; stands = record { entries = entries; runs = going_now is } }
-there w p s x es at some no_value entries (settling_now {gs = no_goals} {e = e} {k = k} is none) =
+there w p s x es at some no_value entries (settling_now {gs = no_goals} {e = e} {k = k} is rests none) =
     no-goal (tables_in w.loaded) (steps_of w.loaded) is.block p.place p.count is.value is.last s _ at some no_value is.goals
-there w p s x es at some no_value entries (settling_now {before = before} {gs = goal g gs} {e = e} {k = k} is none) =
+there w p s x es at some no_value entries (settling_now {before = before} {gs = goal g gs} {e = e} {k = k} is rests none) =
     record {
       g = g;
       gs = gs;
       e = e;
       k = k;
       steps = λ v names. settles-first v w.loaded.preds names before w.store.now.state (goal g gs) e k es none;
-      stands = record { entries = entries; runs = going_now is };
+      stands = record { entries = lies-stand w es entries rests; runs = going_now is };
     }
 
 pub goal-there : {M : Type 0} (w : World M) (p : Point) (s : Step) (c : Config) → AtGoal w p s c → ((o : Operand) → s.node ≢ Node.Value o) → GoalThere w p c
@@ -182,12 +188,17 @@ pub deeper-on : {M : Type 0} (v : View) (names : List NameSlot) (after : World M
 deeper-on v names after now c d rules good is stands =
     record { comes = d; leads = step-deepens v after.loaded.preds names c d rules good is; good = good-deeper v after.loaded.preds names c d good is; is = is-at v names after now d stands }
 
+-- a Tick of the body of a planner call is work
+body-ticks : (v : View) (rest : ℤ) → Fits (Mode.Inner rest) v → IsWorkIn v Tick
+body-ticks v (pos n) fits = ap is_body fits
+body-ticks v (negsuc n) fits = absurd fits
+
 -- the budget has no Tick left
-pub ticks-out : {M : Type 0} (v : View) (names : List NameSlot) (mode : Mode) (after : World M) (now : Now) (c d : Config) → AreOfRules after.loaded.preds → IsGood c → step v after.loaded.preds names c ≡ with_tick d → now ≡ Now.Ended (spent mode) → Goes v names (some_ticks 0) after now c
-ticks-out v names Mode.Top after now c d rules good is ended =
+pub ticks-out : {M : Type 0} (v : View) (names : List NameSlot) (mode : Mode) (after : World M) (now : Now) (c d : Config) → AreOfRules after.loaded.preds → IsGood c → step v after.loaded.preds names c ≡ with_tick d → Fits mode v → now ≡ Now.Ended (spent mode) → Goes v names (some_ticks 0) after now c
+ticks-out v names Mode.Top after now c d rules good is fits ended =
     record { comes = c; leads = leads-none v after.loaded.preds names c; good = good; is = subst (λ n. IsAt v names after n c) (sym ended) (step-at_tick v after.loaded.preds names c d rules good is) }
-ticks-out v names (Mode.Inner rest) after now c d rules good is ended =
-    record { comes = c; leads = leads-none v after.loaded.preds names c; good = good; is = subst (λ n. IsAt v names after n c) (sym ended) (step-at_tick v after.loaded.preds names c d rules good is) }
+ticks-out v names (Mode.Inner rest) after now c d rules good is fits ended =
+    record { comes = c; leads = leads-none v after.loaded.preds names c; good = good; is = subst (λ n. IsAt v names after n c) (sym ended) (Tick, body-ticks v rest fits, step-at_tick v after.loaded.preds names c d rules good is) }
 
 -- a `Tick` is counted and passed
 tick-of : (g : GoalTree) → GoalKind.Tick ≡ kind_of g → g ≡ tick
@@ -238,7 +249,7 @@ tick-refused w p s mode old new now node same ended none v fits names c is =
     goal-first w w p c v names mode old new now refl is.rules is.good it
     (λ good. record {
       goes = subst (λ k. Goes v names (some_ticks k) w now d) (sym (none-counted mode old new same))
-          (ticks-out v names mode w now d (config (going it.gs it.e w.store.now.state it.k) c.stack) is.rules good (tick-form w p s c v names is node it) ended);
+          (ticks-out v names mode w now d (config (going it.gs it.e w.store.now.state it.k) c.stack) is.rules good (tick-form w p s c v names is node it) fits ended);
       spent = spent-is mode old new now same ended none;
     })
 
@@ -275,15 +286,15 @@ call-counted w after p s now c v names false mode old new x y same is there_it r
       spent = unspent after mode new now there_it.next stands;
     })
 
-pub call-refused : {M : Type 0} (w : World M) (p : Point) (s : Step) (now : Now) (c : Config) (v : View) (names : List NameSlot) (quiet : Bool) (mode : Mode) (old new : Budget) (x : Now) → AtGoal w p s c → CallThere w p c v names quiet →
+pub call-refused : {M : Type 0} (w : World M) (p : Point) (s : Step) (now : Now) (c : Config) (v : View) (names : List NameSlot) (quiet : Bool) (mode : Mode) (old new : Budget) (x : Now) → Fits mode v → AtGoal w p s c → CallThere w p c v names quiet →
     TicksUnless quiet (counting mode old new) x now false → TicksOn v names mode old new w now c
-call-refused w p s now c v names true mode old new x is there_it ticks = absurd cc
-call-refused w p s now c v names false mode old new x is there_it ticks =
+call-refused w p s now c v names true mode old new x fits is there_it ticks = absurd cc
+call-refused w p s now c v names false mode old new x fits is there_it ticks =
     let d : Config = at_goal w p c there_it.it in
     goal-first w w p c v names mode old new now refl is.rules is.good there_it.it
     (λ good. record {
       goes = subst (λ k. Goes v names (some_ticks k) w now d) (sym (none-counted mode old new ticks.0))
-          (ticks-out v names mode w now d there_it.next is.rules good (by-goal w p c v names there_it.it ∙ there_it.comes) ticks.1);
+          (ticks-out v names mode w now d there_it.next is.rules good (by-goal w p c v names there_it.it ∙ there_it.comes) fits ticks.1);
       spent = spent-is mode old new now ticks.0 ticks.1 ticks.2;
     })
 

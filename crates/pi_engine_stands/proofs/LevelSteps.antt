@@ -193,6 +193,8 @@ level-step w v mark p s fs n (Node.Unify left right) kind view g gs e k es pushe
 level-step w v mark p s fs n (Node.Throw ball) kind view g gs e k es pushed marks is level stands = absurd cc
 level-step w v mark p s fs n (Node.BuiltIn built name first arity) kind view g gs e k es pushed marks is level stands = absurd cc
 level-step w v mark p s fs n (Node.BuiltInValue built name first arity slot) kind view g gs e k es pushed marks is level stands = absurd cc
+level-step w v mark p s fs n (Node.Constrain c name first arity) kind view g gs e k es pushed marks is level stands = absurd cc
+level-step w v mark p s fs n (Node.DomainValue f name first arity slot) kind view g gs e k es pushed marks is level stands = absurd cc
 level-step w v mark p s fs n (Node.Call q first) kind view g gs e k es pushed marks is level stands = absurd cc
 level-step w v mark p s fs n (Node.Apply q first into) kind view g gs e k es pushed marks is level stands = absurd cc
 level-step w v mark p s fs n (Node.Value value) kind view g gs e k es pushed marks is level stands = absurd cc
@@ -217,6 +219,8 @@ has-child t place collected (Node.Unify left right) kind g level shown = absurd 
 has-child t place collected (Node.Throw ball) kind g level shown = absurd cc
 has-child t place collected (Node.BuiltIn built name first arity) kind g level shown = absurd cc
 has-child t place collected (Node.BuiltInValue built name first arity slot) kind g level shown = absurd cc
+has-child t place collected (Node.Constrain c name first arity) kind g level shown = absurd cc
+has-child t place collected (Node.DomainValue f name first arity slot) kind g level shown = absurd cc
 has-child t place collected (Node.Call q first) kind g level shown = absurd cc
 has-child t place collected (Node.Apply q first into) kind g level shown = absurd cc
 has-child t place collected (Node.Value value) kind g level shown = absurd cc

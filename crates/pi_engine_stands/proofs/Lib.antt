@@ -59,11 +59,14 @@ pub mod HeadsMatch
 pub mod HeadsTried
 pub mod CallMade
 pub mod CallRuns
+pub mod ConstraintNames
 pub mod BuiltInStands
+pub mod ConstraintsStand
 pub mod SilentSteps
 pub mod ReadsHere
 pub mod ApplyRuns
 pub mod SettlesFirst
+pub mod DueStands
 pub mod GoalsGo
 pub mod StopsGo
 pub mod KnownGoals

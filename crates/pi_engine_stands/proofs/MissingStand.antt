@@ -23,7 +23,8 @@ use Rattle.pi_engine_code.specs.declared.code.Node.{Node}
 use Rattle.pi_engine_code.specs.declared.code.Predicate.{Predicate}
 use Rattle.pi_engine_code.specs.declared.code.Step.{Step}
 use Rattle.pi_engine_arenas.specs.declared.run.Now.{Now}
-use Rattle.pi_effects.specs.BuiltIns.{is_function}
+use Rattle.pi_meaning.specs.Shared.Effects.{is_value_name}
+use Rattle.pi_engine_stands.proofs.ConstraintNames.{function-value, domain-known, domain-value}
 use Rattle.pi_engine_code.specs.Laid.{IsNotBuiltIn}
 use Rattle.pi_engine_code.specs.Code.{Tables, preds_of, arguments, operand_trees, node_kind, operand_tree}
 use Rattle.pi_engine_arenas.specs.Arenas.{ArenasView, DropsNewest}
@@ -105,7 +106,14 @@ apply-node t b (Node.BuiltInValue built n first arity q) name args into reads fr
     let named : slice_index_or t.names n [] ≡ name = cc in
     let these : operand_trees t first arity ≡ args = cc in
     let many : arity ≡ length args = sym (args-count t first arity reads.0.0) ∙ ap length these in
-    let yes : true ≡ false = sym reads.1.known ∙ ap (λ x. is_function x arity) named ∙ ap (is_function name) many ∙ free in
+    let yes : true ≡ false = sym (function-value (slice_index_or t.names n []) arity reads.1.known) ∙ ap (λ x. is_value_name x arity) named ∙ ap (is_value_name name) many ∙ free in
+    absurd cc
+apply-node t b (Node.Constrain c n first arity) name args into reads free h = absurd cc
+apply-node t b (Node.DomainValue f n first arity q) name args into reads free h =
+    let named : slice_index_or t.names n [] ≡ name = cc in
+    let these : operand_trees t first arity ≡ args = cc in
+    let many : arity ≡ length args = sym (args-count t first arity reads.0.0) ∙ ap length these in
+    let yes : true ≡ false = sym (domain-value (slice_index_or t.names n []) arity (domain-known (slice_index_or t.names n []) arity f reads.1)) ∙ ap (λ x. is_value_name x arity) named ∙ ap (is_value_name name) many ∙ free in
     absurd cc
 
 -- the level of the call
@@ -264,7 +272,7 @@ value-missing w c u back place caller n operands into arity code step source rs 
     let is_call : IsTerm u call (comp at.name at.called) = subst (λ m. IsTerm u call (comp m at.called)) name (puts at.called terms) in
     let sound : Rests u.now.state = subst Rests (sym stays.state) out.state in
     let raised : ball ≡ unresolved_for (value_of (bindings w.store.now.state) (comp at.name at.called)) =
-    subst (λ q. ball ≡ unresolved_for (value_of (bindings q) (comp at.name at.called))) stays.state (tells (comp at.name at.called) is_call sound.state.acyclic) in
+    subst (λ q. ball ≡ unresolved_for (value_of (bindings q) (comp at.name at.called))) stays.state (tells (comp at.name at.called) is_call sound.calm.state.acyclic) in
     subst (Stands (moved w u c) (Now.Raising ball)) (ap (λ q. config (raising q) es) raised ∙ sym (apply-step s (comp at.name at.called) at.into b at.places w.store.now.state at.frames es at.level at.back_is))
     (record { entries = store-changes after u es (stack-lies after es (popped-stands after back w.arenas.collected it.from (strict s b) es out two.1)) stays; runs = raising_now })
 

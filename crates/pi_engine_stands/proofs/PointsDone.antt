@@ -39,6 +39,7 @@ use Rattle.pi_engine_stands.proofs.FramesStand.{going-of}
 use Rattle.pi_engine_stands.proofs.GoalsGo.{is-at, unspent, silent-ticks}
 use Rattle.pi_meaning.proofs.Machine.LeadLemmas.{leads-on, leads-silent, step-silent, step-answers, step-ends, good-silent, good-answer}
 use Rattle.pi_engine_stands.specs.Changes.{change}
+use Rattle.pi_engine_stands.proofs.StacksLie.{lies-stand}
 use Rattle.pi_engine_stands.proofs.SettlesFirst.{settles-first, silently-then, silently-leads}
 
 -- ---- silent steps in a row
@@ -60,9 +61,9 @@ done-in : {M : Type 0} (w : World M) (p : Point) (x : NowData) (es : List EntryD
 done-in w p x es none entries (going_now {gs = no_goals} {e = e} {k = k} is) = record { e = e; k = k; steps = λ v names. already; stands = record { entries = entries; runs = going_now is } }
 done-in w p x es none entries (going_now {gs = goal g gs} {e = e} {k = k} is) =
     absurd (omega (arith, none, (first-of (tables_in w.loaded) (steps_of w.loaded) is.block p.place p.count g gs is.value is.last is.goals).some))
-done-in w p x es none entries (settling_now {before = before} {gs = no_goals} {e = e} {k = k} is settled) =
-    record { e = e; k = k; steps = λ v names. settles-first v w.loaded.preds names before w.store.now.state no_goals e k es settled; stands = record { entries = entries; runs = going_now is } }
-done-in w p x es none entries (settling_now {gs = goal g gs} {e = e} {k = k} is settled) =
+done-in w p x es none entries (settling_now {before = before} {gs = no_goals} {e = e} {k = k} is rests settled) =
+    record { e = e; k = k; steps = λ v names. settles-first v w.loaded.preds names before w.store.now.state no_goals e k es settled; stands = record { entries = lies-stand w es entries rests; runs = going_now is } }
+done-in w p x es none entries (settling_now {gs = goal g gs} {e = e} {k = k} is rests settled) =
     absurd (omega (arith, none, (first-of (tables_in w.loaded) (steps_of w.loaded) is.block p.place p.count g gs is.value is.last is.goals).some))
 
 pub done-there : {M : Type 0} (w : World M) (p : Point) (c : Config) → PointIsDone w p c → DoneThere w p c
@@ -174,7 +175,7 @@ step-in t steps b place n gs value last some (last_here {g = g} is) = get_some s
 step-in t steps b place n gs value last some (more_here {g = g} is rest) = get_some steps place (stands-within t steps place g is.stands)
 
 step-now : {M : Type 0} (w : World M) (p : Point) (x : NowData) → 0 < p.count → NowIs w (Now.Going p) x → (s : Step) × (slice_get (steps_of w.loaded) p.place ≡ Some s)
-step-now w p x some (settling_now {gs = gs} is none) = step-in (tables_in w.loaded) (steps_of w.loaded) is.block p.place p.count gs is.value is.last some is.goals
+step-now w p x some (settling_now {gs = gs} is rests none) = step-in (tables_in w.loaded) (steps_of w.loaded) is.block p.place p.count gs is.value is.last some is.goals
 step-now w p x some (going_now {gs = gs} is) = step-in (tables_in w.loaded) (steps_of w.loaded) is.block p.place p.count gs is.value is.last some is.goals
 
 pub step-there : {M : Type 0} (w : World M) (p : Point) (c : Config) → 0 < p.count → Stands w (Now.Going p) c → (s : Step) × (slice_get (steps_of w.loaded) p.place ≡ Some s)
@@ -209,6 +210,8 @@ other-node (Node.Unify left right) no_true no_fail no_tick no_seq no_call = tt
 other-node (Node.Throw ball) no_true no_fail no_tick no_seq no_call = tt
 other-node (Node.BuiltIn built name first arity) no_true no_fail no_tick no_seq no_call = tt
 other-node (Node.BuiltInValue built name first arity slot) no_true no_fail no_tick no_seq no_call = tt
+other-node (Node.Constrain c name first arity) no_true no_fail no_tick no_seq no_call = tt
+other-node (Node.DomainValue f name first arity slot) no_true no_fail no_tick no_seq no_call = tt
 other-node (Node.Call p first) no_true no_fail no_tick no_seq no_call = no_call p first refl
 other-node (Node.Apply p first into) no_true no_fail no_tick no_seq no_call = tt
 other-node (Node.Value o) no_true no_fail no_tick no_seq no_call = tt
@@ -231,6 +234,8 @@ silent-node (Node.Unify left right) other no_apply no_value no_term = tt
 silent-node (Node.Throw ball) other no_apply no_value no_term = tt
 silent-node (Node.BuiltIn built name first arity) other no_apply no_value no_term = tt
 silent-node (Node.BuiltInValue built name first arity slot) other no_apply no_value no_term = tt
+silent-node (Node.Constrain c name first arity) other no_apply no_value no_term = tt
+silent-node (Node.DomainValue f name first arity slot) other no_apply no_value no_term = tt
 silent-node (Node.Call p first) other no_apply no_value no_term = other
 silent-node (Node.Apply p first into) other no_apply no_value no_term = no_apply p first into refl
 silent-node (Node.Value o) other no_apply no_value no_term = no_value o refl

@@ -1,5 +1,5 @@
 -- Points at which nothing is left to settle: one silent step leads to their goals.
-use Rattle.std.proofs.Common.{◌≡◌, List, [], ap}
+use Rattle.std.proofs.Common.{◌≡◌, List, [], sym, ap, subst}
 use Rattle.std.specs.Prelude.{Some}
 use Rattle.pi_terms.specs.Places.{Places}
 use Rattle.pi_constraints.specs.State.{State}
@@ -8,7 +8,7 @@ use Rattle.pi_core.specs.CoreTree.{PredTree}
 use Rattle.pi_core.specs.declared.core_program.NameSlot.{NameSlot}
 use Rattle.pi_meaning.specs.Shared.View.{View}
 use Rattle.pi_meaning.specs.Shared.Settle.{settlement}
-use Rattle.pi_meaning.proofs.Shared.SettleLemmas.{settlement-plain}
+use Rattle.pi_meaning.proofs.Shared.SettleLemmas.{settlement-same}
 use Rattle.pi_meaning.specs.Machine.Configuration.{Frame, Config, config, going, settling, Entry as EntryData}
 use Rattle.pi_meaning.specs.Machine.Step.{silently, settle_step, step}
 use Rattle.pi_meaning.specs.Machine.Shape.{IsGood}
@@ -21,15 +21,23 @@ use Rattle.pi_meaning.proofs.Machine.LeadLemmas.{leads-none, leads-on, leads-sil
 use Rattle.pi_engine_arenas.specs.declared.frames.Point.{Point}
 use Rattle.pi_engine_arenas.specs.declared.run.Now.{Now}
 use Rattle.pi_engine_stands.specs.Rests.{Rests}
-use Rattle.pi_engine_stands.specs.Stands.{World, GoingIs, NowIs, settling_now}
+use Rattle.pi_engine_settle.specs.Settles.{LeftBy}
+use Rattle.pi_engine_stands.specs.Stands.{World, GoingIs, NowIs, settling_now, due_now}
+use Rattle.pi_engine_stands.specs.Settling.{GoesOnTo, at_once, settled_first}
 use Rattle.pi_engine_stands.specs.Makes.{SilentlyTo, already, one_more}
 use Rattle.pi_engine_stands.specs.Goes.{counted, TicksOn}
 
 -- ---- nothing is left to settle
 
--- so it is in each state from which goals begin
-pub settling-rests : {M : Type 0} (w : World M) (p : Point) (before : State) (gs : GoalTrees) (e : Places) (k : List Frame) → Rests w.store.now.state → GoingIs w p gs e k → NowIs w (Now.Going p) (settling before w.store.now.state gs e k)
-settling-rests w p before gs e k rests is = settling_now is (settlement-plain before w.store.now.state rests.none_posted rests.none_made)
+-- so it is where the goal left the state in which it began
+pub settling-same : {M : Type 0} (w : World M) (p : Point) (before : State) (gs : GoalTrees) (e : Places) (k : List Frame) → before ≡ w.store.now.state → Rests w.store.now.state → GoingIs w p gs e k → NowIs w (Now.Going p) (settling before w.store.now.state gs e k)
+settling-same w p before gs e k same rests is = settling_now is rests (subst (λ s. settlement s w.store.now.state ≡ record { load = 0; left = Some w.store.now.state }) (sym same) (settlement-same w.store.now.state))
+
+-- a point is next after what a goal left, at once or after that is settled
+pub goes-on-to : {M : Type 0} (w : World M) (p : Point) (before : State) (gs : GoalTrees) (e : Places) (k : List Frame) (now : Now) → LeftBy before w.store.now.state → GoingIs w p gs e k → GoesOnTo before w.store.now.state p now →
+    NowIs w now (settling before w.store.now.state gs e k)
+goes-on-to w p before gs e k _ left is (at_once calm same) = settling_now is (record { calm = calm; none_made = left.none_made }) same
+goes-on-to w p before gs e k _ left is (settled_first it point due) = due_now (subst (λ q. GoingIs w q gs e k) (sym point) is) left due
 
 settles-silently : (v : View) (preds : List PredTree) (names : List NameSlot) (before s : State) (gs : GoalTrees) (e : Places) (k : List Frame) (es : List EntryData) → settlement before s ≡ record { load = 0; left = Some s } →
     step v preds names (config (settling before s gs e k) es) ≡ silently (config (going gs e s k) es)

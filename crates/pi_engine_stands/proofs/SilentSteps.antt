@@ -1,7 +1,8 @@
 -- Goals whose step counts no Tick, by their nodes.
 use Rattle.std.proofs.Common.{◌≡◌, ℕ, List, [], ◌∷◌, refl, sym, ◌∙◌, ap}
 use Rattle.std.specs.Prelude.{slice_index_or, codes}
-use Rattle.pi_terms.specs.Tree.{Tree}
+use Rattle.pi_terms.specs.Tree.{Tree, trees_of}
+use Rattle.pi_constraints.specs.Evaluation.{evaluated_all}
 use Rattle.pi_terms.specs.Places.{Places}
 use Rattle.pi_constraints.specs.State.{State}
 use Rattle.pi_meaning.specs.Shared.View.{View}
@@ -18,7 +19,8 @@ use Rattle.pi_engine_stands.specs.Here.{Block, NodeIsReadable}
 use Rattle.pi_engine_stands.specs.Goes.{IsSilent}
 use Rattle.pi_engine_stands.proofs.CallLemmas.{equal-comes-to, throw-comes-to}
 use Rattle.pi_engine_stands.proofs.CallRuns.{args-count}
-use Rattle.pi_engine_stands.proofs.BuiltInStands.{effect-there, value-there}
+use Rattle.pi_engine_stands.proofs.ConstraintNames.{built-effect, built-value, domain-known}
+use Rattle.pi_engine_stands.proofs.BuiltInStands.{effect-there, value-there, goal-there, domain-there}
 
 no-silent : (t : Tables) (n : Node) (k : GoalKind) (X : Type 0) → IsSilent n → node_kind t n ≡ k → (k ≡ GoalKind.Tick) → X
 unfolding node_kind
@@ -37,6 +39,8 @@ no-silent t (Node.Unify left right) k X silent kind is = absurd cc
 no-silent t (Node.Throw ball) k X silent kind is = absurd cc
 no-silent t (Node.BuiltIn built n first arity) k X silent kind is = absurd cc
 no-silent t (Node.BuiltInValue built n first arity slot) k X silent kind is = absurd cc
+no-silent t (Node.Constrain c n first arity) k X silent kind is = absurd cc
+no-silent t (Node.DomainValue f n first arity slot) k X silent kind is = absurd cc
 no-silent t (Node.Call p first) k X silent kind is = absurd silent
 no-silent t (Node.Apply p first into) k X silent kind is = absurd silent
 no-silent t (Node.Value operand) k X silent kind is = absurd silent
@@ -73,8 +77,13 @@ call-silent v preds t b (Node.CallTerm first arity) name args gs e s k es silent
 call-silent v preds t b (Node.BuiltIn built n first arity) name args gs e s k es silent reads kind =
     let it : call (slice_index_or t.names n []) (operand_trees t first arity) ≡ call name args = cc in
     let does = effect-there (slice_index_or t.names n []) arity built (operand_trees t first arity) e s (args-count t first arity reads.0.0) reads.1 in
-    (_, sym (ap (λ g. goal_step v preds g e s (with_rest gs k es)) it) ∙ effect-comes-to v preds (slice_index_or t.names n []) (operand_trees t first arity) does.0 gs e s k es does.1)
+    (_, sym (ap (λ g. goal_step v preds g e s (with_rest gs k es)) it) ∙ effect-comes-to v preds (slice_index_or t.names n []) (operand_trees t first arity) does.0 gs e s k es (built-effect (slice_index_or t.names n []) (evaluated_all (trees_of (operand_trees t first arity)) e s).trees (evaluated_all (trees_of (operand_trees t first arity)) e s).state does.0 does.1))
 call-silent v preds t b (Node.BuiltInValue built n first arity slot) name args gs e s k es silent reads kind = absurd cc
+call-silent v preds t b (Node.Constrain c n first arity) name args gs e s k es silent reads kind =
+    let it : call (slice_index_or t.names n []) (operand_trees t first arity) ≡ call name args = cc in
+    let does = goal-there (slice_index_or t.names n []) arity (operand_trees t first arity) e s (args-count t first arity reads.0.0) reads.1.known in
+    (_, sym (ap (λ g. goal_step v preds g e s (with_rest gs k es)) it) ∙ effect-comes-to v preds (slice_index_or t.names n []) (operand_trees t first arity) does.0 gs e s k es does.1)
+call-silent v preds t b (Node.DomainValue f n first arity slot) name args gs e s k es silent reads kind = absurd cc
 
 apply-silent : (v : View) (preds : List PredTree) (t : Tables) (b : Block) (n : Node) (name : List ℕ) (args : List Tree) (into : ℕ) (gs : GoalTrees) (e : Places) (s : State) (k : List Frame) (es : List EntryData) → IsSilent n → NodeIsReadable t b n → node_kind t n ≡ GoalKind.Apply name args into →
     StepsSilently v preds (apply name args into) gs e s k es
@@ -100,6 +109,11 @@ apply-silent v preds t b (Node.BuiltIn built n first arity) name args into gs e 
 apply-silent v preds t b (Node.BuiltInValue built n first arity slot) name args into gs e s k es silent reads kind =
     let it : apply (slice_index_or t.names n []) (operand_trees t first arity) slot ≡ apply name args into = cc in
     let does = value-there (slice_index_or t.names n []) arity built (operand_trees t first arity) e s (args-count t first arity reads.0.0) reads.1 in
+    (_, sym (ap (λ g. goal_step v preds g e s (with_rest gs k es)) it) ∙ value-comes-to v preds (slice_index_or t.names n []) (operand_trees t first arity) slot does.0 gs e s k es (built-value (slice_index_or t.names n []) (evaluated_all (trees_of (operand_trees t first arity)) e s).trees (evaluated_all (trees_of (operand_trees t first arity)) e s).state does.0 does.1))
+apply-silent v preds t b (Node.Constrain c n first arity) name args into gs e s k es silent reads kind = absurd cc
+apply-silent v preds t b (Node.DomainValue f n first arity slot) name args into gs e s k es silent reads kind =
+    let it : apply (slice_index_or t.names n []) (operand_trees t first arity) slot ≡ apply name args into = cc in
+    let does = domain-there (slice_index_or t.names n []) arity (operand_trees t first arity) e s (args-count t first arity reads.0.0) (domain-known (slice_index_or t.names n []) arity f reads.1) in
     (_, sym (ap (λ g. goal_step v preds g e s (with_rest gs k es)) it) ∙ value-comes-to v preds (slice_index_or t.names n []) (operand_trees t first arity) slot does.0 gs e s k es does.1)
 
 pub silent-step : (v : View) (preds : List PredTree) (t : Tables) (b : Block) (n : Node) (g : GoalTree) (gs : GoalTrees) (e : Places) (s : State) (k : List Frame) (es : List EntryData) → IsSilent n → NodeIsReadable t b n → node_kind t n ≡ kind_of g → StepsSilently v preds g gs e s k es

@@ -13,14 +13,14 @@ lies-stand w es is state = record { code = is.code; state = state; tables = is.t
 -- a stack is below whatever runs
 pub any-below : {M : Type 0} (w : World M) (x : NowData) (es : List EntryData) → StackStands w es → StackBelow w x es
 any-below w (going gs e s k) es is = is
-any-below w (settling before s gs e k) es is = is
+any-below w (settling before s gs e k) es is = stack-lies w es is
 any-below w (telling text gs e s k) es is = is
 any-below w failed es is = stack-lies w es is
 any-below w (raising ball) es is = stack-lies w es is
 
 pub below-lies : {M : Type 0} (w : World M) (x : NowData) (es : List EntryData) → StackBelow w x es → StackLies w es
 below-lies w (going gs e s k) es is = stack-lies w es is
-below-lies w (settling before s gs e k) es is = stack-lies w es is
+below-lies w (settling before s gs e k) es is = is
 below-lies w (telling text gs e s k) es is = stack-lies w es is
 below-lies w failed es is = is
 below-lies w (raising ball) es is = is

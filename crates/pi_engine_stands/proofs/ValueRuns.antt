@@ -37,6 +37,7 @@ use Rattle.pi_engine_stands.proofs.EqualStands.{node-readable, stack-moved, goin
 use Rattle.pi_engine_stands.proofs.OpenStand.{OpenAt, nothing_at, strict_at, catch_at, open-at}
 use Rattle.pi_engine_stands.proofs.ValueHere.{ValueAt, value-at}
 use Rattle.pi_engine_stands.proofs.RestLemmas.{evaluated-rests}
+use Rattle.pi_engine_stands.proofs.StacksLie.{lies-stand}
 use Rattle.pi_engine_stands.proofs.SettlesFirst.{settles-first, silently-then}
 
 -- ---- the level that waits for the value
@@ -130,9 +131,9 @@ value-in : {M : Type 0} (w : World M) (p : Point) (s : Step) (operand : Operand)
     NowIs w (Now.Going p) x → ValueThere w p s operand (config x es)
 value-in w p s operand x es at some node stands balanced (going_now {gs = no_goals} {e = e} {k = k} is) = value-by w p s operand x es e k at some node stands balanced is (λ v names. already)
 value-in w p s operand x es at some node stands balanced (going_now {gs = goal g gs} {e = e} {k = k} is) = absurd (node-readable w p s g gs e k (Node.Value operand) at is node)
-value-in w p s operand x es at some node stands balanced (settling_now {before = before} {gs = no_goals} {e = e} {k = k} is none) =
-    value-by w p s operand x es e k at some node stands balanced is (λ v names. settles-first v w.loaded.preds names before w.store.now.state no_goals e k es none)
-value-in w p s operand x es at some node stands balanced (settling_now {before = before} {gs = goal g gs} {e = e} {k = k} is none) = absurd (node-readable w p s g gs e k (Node.Value operand) at is node)
+value-in w p s operand x es at some node stands balanced (settling_now {before = before} {gs = no_goals} {e = e} {k = k} is rests none) =
+    value-by w p s operand x es e k at some node (lies-stand w es stands rests) balanced is (λ v names. settles-first v w.loaded.preds names before w.store.now.state no_goals e k es none)
+value-in w p s operand x es at some node stands balanced (settling_now {before = before} {gs = goal g gs} {e = e} {k = k} is rests none) = absurd (node-readable w p s g gs e k (Node.Value operand) at is node)
 
 value-there : {M : Type 0} (w : World M) (p : Point) (s : Step) (operand : Operand) (c : Config) → AtGoal w p s c → s.node ≡ Node.Value operand → ValueThere w p s operand c
 value-there w p s operand c is node = value-in w p s operand c.now c.stack is.at is.some node is.stands.entries is.good.balanced is.stands.runs

@@ -72,7 +72,7 @@ agrees-found w v bs b f s (Some x) writes stays lies agrees =
     )
 
 -- what is there now agrees with its level
-pub agrees-written : {M : Type 0} (w : World M) (v : StoreView M) (bs : BlocksView) (b : Block) (f : Places) (s : State) (es : List EntryData) → WritesTo w v bs b f s → StackStands w es →
+pub agrees-written : {M : Type 0} (w : World M) (v : StoreView M) (bs : BlocksView) (b : Block) (f : Places) (s : State) (es : List EntryData) → WritesTo w v bs b f s → StackLies w es →
     ends_base (level_ends w w.arenas.level) ≤ b.base → Agrees w w.arenas.level (now_here w) → Agrees (written w v bs) w.arenas.level (now_here (written w v bs))
 agrees-written w v bs b f s es writes stands lies agrees =
     let n : ℕ = length (entries_of w) in
@@ -96,7 +96,7 @@ goes_on-written w v bs b f s leaves n k writes goes =
     refl goes
 
 -- goals that run go on to, in their block as it is then
-pub going-written : {M : Type 0} (w : World M) (v : StoreView M) (bs : BlocksView) (p : Point) (gs : GoalTrees) (e f : Places) (s : State) (k : List Frame) (es : List EntryData) → StackStands w es →
+pub going-written : {M : Type 0} (w : World M) (v : StoreView M) (bs : BlocksView) (p : Point) (gs : GoalTrees) (e f : Places) (s : State) (k : List Frame) (es : List EntryData) → StackLies w es →
     (is : GoingIs w p gs e k) → WritesTo w v bs is.block f s → GoingIs (written w v bs) p gs f k
 going-written w v bs p gs e f s k es stands is writes =
     record {

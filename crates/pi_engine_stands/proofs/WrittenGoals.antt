@@ -18,6 +18,7 @@ use Rattle.pi_core.proofs.GoalPlaces.{nodes-children}
 use Rattle.pi_engine_code.proofs.CodeLemmas.{stands-within}
 use Rattle.pi_engine_stands.proofs.BasesStand.{shape-base, block-above}
 use Rattle.pi_engine_stands.proofs.StandsLemmas.{moved}
+use Rattle.pi_engine_stands.proofs.StacksLie.{stack-lies}
 use Rattle.pi_engine_stands.proofs.WritesStand.{written, WritesTo, agrees-written, goes_on-written}
 use Rattle.pi_engine_stands.proofs.EqualStands.{writes-to}
 
@@ -51,7 +52,7 @@ written-in w v bs base place frame g e f s k es stands own agrees writes =
         behind = record { slots = writes.holds; leaves = own.behind.leaves; frames = goes_on-written w v bs b f s own.behind.leaves frame k writes own.behind.frames };
         leaves = own.leaves;
       };
-      agrees = agrees-written w v bs b f s es writes stands (block-above (tables_in w.loaded) (steps_of w.loaded) (now_here w) b own.behind.leaves frame k own.behind.frames) agrees;
+      agrees = agrees-written w v bs b f s es writes (stack-lies w es stands) (block-above (tables_in w.loaded) (steps_of w.loaded) (now_here w) b own.behind.leaves frame k own.behind.frames) agrees;
     }
 
 pub goal-written : {M : Type 0} (w : World M) (v : StoreView M) (c : ArenasView M) (base place frame : ℕ) (g : GoalTree) (e f : Places) (s : State) (k : List Frame) (es : List EntryData) → StackStands w es →

@@ -1,4 +1,4 @@
--- What is next behind a call of a built-in predicate.
+-- What is next behind a call of a built-in predicate, and of a goal of constraints.
 use Rattle.std.specs.Prelude.{◌≡◌, List, ℕ, Box, codes}
 use Rattle.std.specs.Global.{Global}
 use Rattle.pi_terms.specs.Tree.{atom}
@@ -8,6 +8,8 @@ use Rattle.pi_meaning.specs.declared.happening.Mode.{Mode}
 use Rattle.pi_engine_arenas.specs.declared.frames.Point.{Point}
 use Rattle.pi_engine_arenas.specs.declared.run.Telling.{Telling}
 use Rattle.pi_engine_arenas.specs.declared.run.Now.{Now}
+use Rattle.pi_engine_settle.specs.Settles.{LeftBy}
+use Rattle.pi_engine_stands.specs.Settling.{GoesOnTo}
 
 -- a text is told, and then a point is next; where a machine runs the body of a planner call that is an exception
 abbrev pub IsTold : Mode → List ℕ → Point → Now → Type 0
@@ -20,3 +22,10 @@ ComesNext mode p (Succeeds r) s now = (r ≡ s) × (now ≡ Now.Going p)
 ComesNext mode p Fails s now = now ≡ Now.Failing
 ComesNext mode p (Writes text r) s now = (r ≡ s) × IsTold mode text p now
 ComesNext mode p (Raises ball) s now = now ≡ Now.Raising ball
+
+-- what is next behind a goal of constraints that does this, which began in the first state and left the second: what it left is settled first
+abbrev pub ComesAfter : State → Point → Effect → State → Now → Type 0
+ComesAfter before p (Succeeds r) s now = (r ≡ s) × LeftBy before s × GoesOnTo before s p now
+ComesAfter before p Fails s now = now ≡ Now.Failing
+ComesAfter before p (Writes text r) s now = ⊥
+ComesAfter before p (Raises ball) s now = now ≡ Now.Raising ball

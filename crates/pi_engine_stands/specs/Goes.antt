@@ -1,6 +1,8 @@
 -- What the machine's code does over steps of the machine as data: Ticks that are counted, an answer, and where it is then.
-use Rattle.std.specs.Prelude.{◌≡◌, ◌-◌, ◌<◌, ℕ, slice_get, Some, Bool, true, false, List, ⊤}
-use Rattle.pi_traces.specs.Trace.{Done, Raise, Emitted}
+use Rattle.std.specs.Prelude.{◌≡◌, ◌-◌, ◌<◌, ℕ, slice_get, Some, Bool, true, false, IsTrue, List, ⊤}
+use Rattle.pi_traces.specs.Trace.{Done, Raise, Note, Tick, Load, Out, Emitted}
+use Rattle.pi_core.specs.CoreTree.{PredTree}
+use Rattle.pi_meaning.specs.Shared.Within.{is_body}
 use Rattle.pi_meaning.specs.Shared.View.{View}
 use Rattle.pi_meaning.specs.CoreMeaning.Run.{Solution}
 use Rattle.pi_core.specs.declared.core_program.NameSlot.{NameSlot}
@@ -8,9 +10,9 @@ use Rattle.pi_meaning.specs.declared.happening.Budget.{Budget}
 use Rattle.pi_meaning.specs.declared.happening.Mode.{Mode}
 use Rattle.pi_engine_arenas.specs.declared.run.End.{End as RunEnd}
 use Rattle.pi_engine_arenas.specs.declared.run.Now.{Now}
-use Rattle.pi_meaning.specs.Machine.Budget.{AreStepsUsed, IsWorkUsed, IsInner}
+use Rattle.pi_meaning.specs.Machine.Budget.{AreStepsUsed, IsWorkUsed}
 use Rattle.pi_meaning.specs.Machine.Configuration.{Config}
-use Rattle.pi_meaning.specs.Machine.Leads.{Leads, IsAtTick, IsAtEnd}
+use Rattle.pi_meaning.specs.Machine.Leads.{Leads, IsAtNote, IsAtTick, IsAtEnd}
 use Rattle.pi_meaning.specs.Machine.Next.{some_ticks}
 use Rattle.pi_meaning.specs.Machine.Shape.{IsGood}
 use Rattle.pi_engine_code.specs.declared.code.Node.{Node}
@@ -59,12 +61,22 @@ TicksUnless false b before after found = Ticks b.mode b.old b.new before after f
 
 -- ---- where a run is
 
+-- what is work under a view: a load, and a Tick of the body of a planner call
+abbrev pub IsWorkIn : View → Note → Type 0
+IsWorkIn v Tick = IsTrue (is_body v.within)
+IsWorkIn v (Load k) = ⊤
+IsWorkIn v (Out text) = ⊥
+
+-- it is about to tell work
+abbrev pub IsAtWork : View → List PredTree → List NameSlot → Config → Type 0
+IsAtWork v preds names c = (n : Note) × IsWorkIn v n × IsAtNote v preds names n c
+
 -- it stands for a configuration, or has come to its end there
 abbrev pub IsAt : {M : Type 0} → View → List NameSlot → World M → Now → Config → Type 0
 IsAt v names w (Now.Ended RunEnd.Done) c = IsAtEnd v w.loaded.preds names Done c
 IsAt v names w (Now.Ended (RunEnd.Raised ball)) c = IsAtEnd v w.loaded.preds names (Raise ball) c
 IsAt v names w (Now.Ended RunEnd.StepsSpent) c = IsAtTick v w.loaded.preds names c
-IsAt v names w (Now.Ended RunEnd.WorkSpent) c = IsAtTick v w.loaded.preds names c
+IsAt v names w (Now.Ended RunEnd.WorkSpent) c = IsAtWork v w.loaded.preds names c
 IsAt v names w (Now.Ended RunEnd.Memory) c = ⊤
 IsAt v names w now c = Stands w now c
 
@@ -75,10 +87,10 @@ pub record Goes {M : Type 0} (v : View) (names : List NameSlot) (events : List (
   pub good : IsGood comes
   pub is : IsAt v names after now comes
 
--- where a run has ended before a Tick, the budget that this machine counts in has none left
+-- where a run has ended before a Tick or a load, the budget has no room for it
 abbrev pub IsSpent : Mode → Budget → Now → Type 0
-IsSpent mode b (Now.Ended RunEnd.StepsSpent) = (mode ≡ Mode.Top) × HasNone mode b
-IsSpent mode b (Now.Ended RunEnd.WorkSpent) = IsInner mode × HasNone mode b
+IsSpent mode b (Now.Ended RunEnd.StepsSpent) = (mode ≡ Mode.Top) × AreStepsUsed b
+IsSpent mode b (Now.Ended RunEnd.WorkSpent) = IsWorkUsed b
 IsSpent mode b now = ⊤
 
 -- from a configuration on, with the Ticks that are counted

@@ -13,7 +13,8 @@ use Rattle.pi_engine_code.specs.declared.code.Part.{Part}
 use Rattle.pi_engine_code.specs.declared.code.Node.{Node}
 use Rattle.pi_engine_code.specs.declared.code.Step.{Step}
 use Rattle.pi_lib_builtin.specs.Resolved.{IsFunctionNamed}
-use Rattle.pi_engine_code.specs.Laid.{IsEffectOf}
+use Rattle.pi_lib_constraints.specs.Named.{IsConstraintNamed}
+use Rattle.pi_engine_code.specs.Laid.{IsEffectOf, IsDomainFunctionNamed}
 use Rattle.pi_meaning.specs.Shared.Names.{is_call}
 use Rattle.pi_engine_code.specs.Code.{Tables, operand_tree, spelled_parts, StandsAt}
 use Rattle.pi_engine_arenas.specs.Frames.{frame_at}
@@ -83,6 +84,8 @@ NodeIsReadable t b (Node.Collect value into) = (value < b.count) × (into < b.co
 NodeIsReadable t b (Node.Count into) = into < b.count
 NodeIsReadable t b (Node.BuiltIn p name first arity) = AreReadable t b first arity × IsEffectOf (slice_index_or t.names name []) arity p
 NodeIsReadable t b (Node.BuiltInValue f name first arity into) = AreReadable t b first arity × IsFunctionNamed (slice_index_or t.names name []) arity f × (into < b.count)
+NodeIsReadable t b (Node.Constrain g name first arity) = AreReadable t b first arity × IsConstraintNamed (slice_index_or t.names name []) arity g
+NodeIsReadable t b (Node.DomainValue f name first arity into) = AreReadable t b first arity × IsDomainFunctionNamed (slice_index_or t.names name []) arity f × (into < b.count)
 NodeIsReadable t b (Node.CallTerm first arity) = AreReadable t b first arity × (is_call (codes "call") arity ≡ true)
 NodeIsReadable t b node = ⊤
 

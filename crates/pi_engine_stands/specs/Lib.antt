@@ -2,6 +2,7 @@ pub mod Here
 pub mod Rests
 pub mod Evaluates
 pub mod Stands
+pub mod Settling
 pub mod Changes
 pub mod Views
 pub mod Makes

@@ -27,6 +27,7 @@ use Rattle.pi_engine_arenas.specs.declared.arenas.Kind.{Kind}
 use Rattle.pi_engine_arenas.specs.declared.arenas.Strict.{Strict}
 use Rattle.std.specs.Prelude.{Box}
 use Rattle.std.specs.Global.{Global}
+use Rattle.pi_engine_arenas.specs.declared.run.Settling.{Settling}
 use Rattle.pi_engine_arenas.specs.declared.run.Telling.{Telling}
 use Rattle.pi_engine_arenas.specs.declared.run.Now.{Now}
 use Rattle.pi_engine_code.specs.Code.{Tables, tables_of, preds_of}
@@ -36,6 +37,8 @@ use Rattle.pi_engine_arenas.specs.declared.arenas.Entry.{Entry}
 use Rattle.pi_engine_stands.specs.Here.{Block, block_end, Holds, HoldsArguments, IsHere, AreHere, AreBranches, valued, Ends, in_block, with_value, Here, LeftBehind, GoesOn}
 use Rattle.pi_meaning.specs.Machine.Shape.{open_level}
 use Rattle.pi_meaning.specs.Shared.Settle.{settlement}
+use Rattle.pi_engine_settle.specs.Due.{IsDueFor}
+use Rattle.pi_engine_settle.specs.Settles.{LeftBy}
 use Rattle.pi_meaning.specs.Machine.Configuration.{Called, rules_left, facts_left, branches_left, once_level, not_level, if_level, guard_level, value_level, list_level, number_level, Frame, Entry as EntryData, choice, strict, catch_level, left, Now as NowData, going, settling, telling, failed, raising, Config, config}
 use Rattle.pi_engine_arenas.specs.declared.run.Run.{Run}
 
@@ -310,11 +313,13 @@ pub record GoingIs {M : Type 0} (w : World M) (p : Point) (gs : GoalTrees) (e : 
   pub frames : k ≡ valued value rest
   pub agrees : Agrees w w.arenas.level (now_here w)
 
--- What runs. A point whose goals are next also stands for a state that is settled first, where nothing is left to settle.
+-- What runs. A point whose goals are next also stands for a state that is settled first, where nothing is left to settle; else what is due is noted with the point.
 pub data NowIs {M : Type 0} (w : World M) : Now → NowData → Type 0 where
   going_now : {p : Point} {gs : GoalTrees} {e : Places} {k : List Frame} → GoingIs w p gs e k → NowIs w (Now.Going p) (going gs e w.store.now.state k)
-  settling_now : {p : Point} {before : State} {gs : GoalTrees} {e : Places} {k : List Frame} → GoingIs w p gs e k → settlement before w.store.now.state ≡ record { load = 0; left = Some w.store.now.state } →
+  settling_now : {p : Point} {before : State} {gs : GoalTrees} {e : Places} {k : List Frame} → GoingIs w p gs e k → Rests w.store.now.state → settlement before w.store.now.state ≡ record { load = 0; left = Some w.store.now.state } →
       NowIs w (Now.Going p) (settling before w.store.now.state gs e k)
+  due_now : {it : Box Settling Global} {before : State} {gs : GoalTrees} {e : Places} {k : List Frame} → GoingIs w it.value.point gs e k → LeftBy before w.store.now.state → IsDueFor before w.store.now.state it.value.due →
+      NowIs w (Now.Settling it) (settling before w.store.now.state gs e k)
   telling_now : {told : Box Telling Global} {gs : GoalTrees} {e : Places} {k : List Frame} → GoingIs w told.value.point gs e k → NowIs w (Now.Telling told) (telling told.value.text gs e w.store.now.state k)
   failing_now : NowIs w Now.Failing failed
   raising_now : {ball : Tree} → NowIs w (Now.Raising ball) (raising ball)
@@ -336,13 +341,13 @@ pub record StackStands {M : Type 0} (w : World M) (es : List EntryData) : Type 0
   pub kept : w.arenas.blocks.kept ≡ slots_kept_by (newest (entries_of w))
   pub stack : StackIs w (length (entries_of w)) (length w.arenas.collected) es
 
--- The stack below what runs. Where that goes on from an entry alone, nothing is asked of the present state: a unification that
+-- The stack below what runs. Where that goes on from an entry alone, or settles first, nothing is asked of the present state: a unification that
 -- failed may have bound variables.
 abbrev pub StackBelow : {M : Type 0} → World M → NowData → List EntryData → Type 0
 StackBelow w failed es = StackLies w es
 StackBelow w (raising ball) es = StackLies w es
 StackBelow w (going gs e s k) es = StackStands w es
-StackBelow w (settling before s gs e k) es = StackStands w es
+StackBelow w (settling before s gs e k) es = StackLies w es
 StackBelow w (telling text gs e s k) es = StackStands w es
 
 -- a run stands for a configuration

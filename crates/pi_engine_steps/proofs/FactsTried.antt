@@ -121,16 +121,16 @@ pub some-taken : {M : Type 0} (w : World M) (v x u : StoreView M) (b : ArenasVie
     (again : Bool) (next : Option ℕ) (now : Now) → (is : CallIs w p base frame from (record { function = false; args = ts }) cs s k es again) → slice_get w.loaded.preds p ≡ Some pred → slice_get w.loaded.code.predicates.items p ≡ Some predicate → pred.clauses ≡ map clause_tree facts →
     IsTerm w.store asked (comp [] ts) → s ≡ w.store.now.state → predicate.first ≤ from → Stays w.store v → IsFirst ts s (numbered (map clause_tree facts) predicate.first predicate.end) from number → IsNext ts s (numbered (map clause_tree facts) predicate.first predicate.end) (number + 1) next →
     LeavesLater w.order (between v x w.arenas b) (call_at p base frame) (base + predicate.arity) again next → Stays v x →
-    ((d : CoreClause) → slice_get facts (number - predicate.first) ≡ Some d → IsState x.now.state → IsTerm x asked (comp [] ts) → TakesFact x u ts (clause_tree d) (call_at p base frame) now) →
+    ((d : CoreClause) → slice_get facts (number - predicate.first) ≡ Some d → Rests x.now.state → IsTerm x asked (comp [] ts) → TakesFact x u ts (clause_tree d) (call_at p base frame) now) →
     Stands (moved w u b) now (try_facts ts cs (back_to [] s k) es)
 some-taken w v x u b p base frame from number pred predicate facts asked ts cs s k es again next now is at there clauses term same low stays found later leaves also takes =
     let there_is : IsPredicateOf w.loaded.code (tables_in w.loaded) w.store.names is.call.call.pred predicate = there-of w p base frame from (record { function = false; args = ts }) cs s k es again predicate is there in
     let it : (d : CoreClause) × (slice_get facts (number - predicate.first) ≡ Some d) × (clause_tree d ≡ found.fact) = item-of facts (number - predicate.first) found.fact found.behind found.here in
     let state : Rests x.now.state = subst Rests (sym (also.state ∙ stays.state)) is.state in
-    let it_takes : TakesFact x u ts (clause_tree it.0) (call_at p base frame) now = takes it.0 it.1 state.state (also.keeps.terms asked (comp [] ts) (stays.keeps.terms asked (comp [] ts) term)) in
+    let it_takes : TakesFact x u ts (clause_tree it.0) (call_at p base frame) now = takes it.0 it.1 state (also.keeps.terms asked (comp [] ts) (stays.keeps.terms asked (comp [] ts) term)) in
     fact-taken w v x u b p base frame from number (base + predicate.arity) pred predicate ts cs s k es again next it_takes.one now is same stays at there low (ap (λ n. base + n) there_is.arity)
     (first-of ts s pred.clauses (map clause_tree facts) predicate.first from predicate.end number clauses found) (subst (λ ds. IsNext ts s (numbered ds predicate.first predicate.end) (number + 1) next) (sym clauses) later) leaves it_takes.keeps
-    (subst (λ c. Answers (with_fact ts x.now.state c) it_takes.one u.now.state) it.2 it_takes.answers) it_takes.sound it_takes.next
+    (subst (λ c. Answers (with_fact ts x.now.state c) it_takes.one u.now.state) it.2 it_takes.answers) it_takes.left it_takes.next
 
 -- no fact is left that unifies
 pub none-taken : {M : Type 0} (w : World M) (v : StoreView M) (b : ArenasView M) (p base frame from : ℕ) (pred : PredTree) (predicate : Predicate) (facts : List CoreClause) (ts : Trees) (cs : List ClauseTree) (s : State) (k : List Frame) (es : List EntryData) (again : Bool) →
@@ -246,7 +246,7 @@ pub fits-there : {M : Type 0} (w : World M) (p base frame from : ℕ) (ts : Tree
 fits-there w p base frame from ts cs s k es predicate code one is is_code there args same tells lists index =
     let called : Called = record { function = false; args = ts } in
     let arity : predicate.arity ≡ is.call.call.pred.arity = (there-of w p base frame from called cs s k es false predicate is there).arity in
-    tells is.call.call.pred lists ts (pred-at w p base frame from called cs s k es false code is is_code) index is.state.state.acyclic (subst (λ n. HoldsArguments w.store.now.terms w.arenas.blocks.slots base n ts) (sym arity) args)
+    tells is.call.call.pred lists ts (pred-at w p base frame from called cs s k es false code is is_code) index is.state.calm.state.acyclic (subst (λ n. HoldsArguments w.store.now.terms w.arenas.blocks.slots base n ts) (sym arity) args)
     ∙ ap (λ r. list_any (λ modes. fits_modes (bindings r) modes ts) lists) (sym same)
 
 -- ---- the state stays where a call is kept

@@ -227,7 +227,7 @@ query-told w u c names i answer p view e k es tells domains all stands none last
     let there : Arrives w view names (query_block w.loaded.query_slots) e k es = query-arrives w p view names e k es stands none last level in
     let f : Places = there.slots in
     let x : Solution = record { slots = f; state = w.store.now.state } in
-    let done : TellsFirst (query_block w.loaded.query_slots) w.store u w.arenas c names f i answer.values = tells w.loaded.query_slots f are there.holds stands.entries.state.state in
+    let done : TellsFirst (query_block w.loaded.query_slots) w.store u w.arenas c names f i answer.values = tells w.loaded.query_slots f are there.holds stands.entries.state.calm.state in
     let nothing : drop i names ≡ [] = drop_all i names all in
     let values : answer.values ≡ named_values names f w.store.now.state =
     sym (append-nil answer.values) ∙ ap (λ ns. answer.values ++ named_values ns done.slots u.now.state) (sym nothing) ∙ done.all in
@@ -236,7 +236,7 @@ query-told w u c names i answer p view e k es tells domains all stands none last
       there.silently,
       (
         query-answer w view names f w.store.now.state es open_none ∙ ap (λ q. told_step q x es) (done.fit ∙ ap (λ ns. fits ns x) nothing),
-        told-whole names x u.now.state answer stands.entries.state.state.acyclic done.later.state values domains,
+        told-whole names x u.now.state answer stands.entries.state.calm.state.acyclic done.later.state values domains,
         record { entries = lies-moved w u c (query_block w.loaded.query_slots) done.slots u.now.state es done.writes (stack-lies w es stands.entries); runs = failing_now },
       ),
     )
@@ -252,9 +252,9 @@ query-raises w after u z c d names i values n ball p view e k es tells at one ra
     let f : Places = there.slots in
     let s : State = w.store.now.state in
     let x : Solution = record { slots = f; state = s } in
-    let done : TellsFirst b w.store u w.arenas c names f i values = tells w.loaded.query_slots f are there.holds stands.entries.state.state in
+    let done : TellsFirst b w.store u w.arenas c names f i values = tells w.loaded.query_slots f are there.holds stands.entries.state.calm.state in
     let large : NamesValue b (between u z c d) n (evaluated (var n.slot) done.slots u.now.state) None = one b done.slots refl refl (names-at w.loaded.query_slots names i n are at) done.writes.holds done.state in
-    let many : most_cells < cells (slot_value n.slot f s) = subst (λ m. most_cells < m) (as-many s u.now.state n.slot f done.slots stands.entries.state.state.acyclic done.later) large.1 in
+    let many : most_cells < cells (slot_value n.slot f s) = subst (λ m. most_cells < m) (as-many s u.now.state n.slot f done.slots stands.entries.state.calm.state.acyclic done.later) large.1 in
     let open_none : newest_open zero es ≡ none_open = no-open es (newest_open zero es) refl (newest-number zero es ∙ sym stands.entries.level ∙ level) in
     let not_fit : fits names x ≡ false = done.fit ∙ ap (λ ns. fits ns x) (drop-first names i n at) ∙ fits-not n (drop (i + 1) names) x many in (
       x,

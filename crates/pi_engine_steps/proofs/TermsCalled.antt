@@ -93,8 +93,8 @@ not-callable w u b p s operands arity rs parts r name ball view g gs e k es node
     let t : Tree = read.called in
     let frames : List Frame = returning all.slots (behind gs k) in
     let nothing : called_by (followed (bindings u.now.state) t) (each_tree read.more) ≡ None =
-    subst (λ n. IsCalled u n parts (called_by (followed (bindings u.now.state) t) (each_tree read.more))) none (calls t read.more read.state.state.acyclic read.are) in
-    let raised : ball ≡ type_error (codes "callable") t u.now.state = told (type_error (codes "callable") t u.now.state) read.state.state.acyclic (t, first-is u rs r t read.more read.are first, refl) in
+    subst (λ n. IsCalled u n parts (called_by (followed (bindings u.now.state) t) (each_tree read.more))) none (calls t read.more read.state.calm.state.acyclic read.are) in
+    let raised : ball ≡ type_error (codes "callable") t u.now.state = told (type_error (codes "callable") t u.now.state) read.state.calm.state.acyclic (t, first-is u rs r t read.more read.are first, refl) in
     let next : first_now w.loaded.preds (tree t read.more) u.now.state frames ≡ raising ball = first-none w.loaded.preds t read.more u.now.state frames nothing ∙ ap raising (sym raised) in
     term-raises w u b p s operands arity ball view g gs e k es node at stands evaluates.writes
     (ap (λ ts. first_now w.loaded.preds ts all.state frames) read.is ∙ ap (λ x. first_now w.loaded.preds (tree t read.more) x frames) (sym evaluates.writes.state) ∙ next)
@@ -129,7 +129,7 @@ not-found w u b p s operands arity rs parts name n ball view g gs e k es node at
     let read : FirstRead u all rs = first-read w u b p s operands arity rs g gs e k es node at stands evaluates in
     let t : Tree = read.called in
     let frames : List Frame = returning all.slots (behind gs k) in
-    let found : NameRead u n parts t read.more = name-read u name n rs parts t read.more some calls read.state.state.acyclic read.are in
+    let found : NameRead u n parts t read.more = name-read u name n rs parts t read.more some calls read.state.calm.state.acyclic read.are in
     let stack : StackStands (moved w u b) es = stack-there w u b p s operands arity rs g gs e k es stands evaluates read.state in
     let missing : goal_called w.loaded.preds found.it.name (tree_count found.it.args) ≡ None =
     ap (goal_called w.loaded.preds found.it.name) (sym found.count) ∙ missing-called (moved w u b) n (length parts) found.it.name stack.code none found.named distinct in
@@ -151,7 +151,7 @@ found-runs w u b fs c d p s operands arity rs parts name n place frame view g gs
     let read : FirstRead u all rs = first-read w u b p s operands arity rs g gs e k es node at stands evaluates in
     let t : Tree = read.called in
     let frames : List Frame = returning all.slots (behind gs k) in
-    let found : NameRead u n parts t read.more = name-read u name n rs parts t read.more some calls read.state.state.acyclic read.are in
+    let found : NameRead u n parts t read.more = name-read u name n rs parts t read.more some calls read.state.calm.state.acyclic read.are in
     let stack : StackStands (moved w u b) es = stack-there w u b p s operands arity rs g gs e k es stands evaluates read.state in
     let goal_is : FoundNamed (moved w u b) found.it.name (tree_count found.it.args) place =
     subst (λ m. FoundNamed (moved w u b) found.it.name m place) found.count (found-goal (moved w u b) n (length parts) place found.it.name stack.code there found.named) in

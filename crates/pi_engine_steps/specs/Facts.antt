@@ -1,7 +1,7 @@
 -- What the functions that try the facts of a call owe.
-use Rattle.std.specs.Prelude.{◌≡◌, ℕ, Bool, true, false, List, [], Some, map, slice_get, if◌then◌else◌}
+use Rattle.std.specs.Prelude.{◌≡◌, ℕ, Bool, true, false, List, [], Some, map, slice_get}
 use Rattle.pi_terms.specs.Tree.{Trees, comp}
-use Rattle.pi_constraints.specs.State.{State, IsState}
+use Rattle.pi_constraints.specs.State.{State}
 use Rattle.pi_constraints.specs.Store.{StoreView, IsTerm, Keeps}
 use Rattle.pi_constraints.specs.declared.store.Ref.{Ref}
 use Rattle.pi_core.specs.CoreTree.{ClauseTree, PredTree, clause_tree}
@@ -11,18 +11,20 @@ use Rattle.pi_engine_code.specs.declared.code.Predicate.{Predicate}
 use Rattle.pi_engine_arenas.specs.declared.run.Now.{Now}
 use Rattle.pi_meaning.specs.Machine.Configuration.{Frame, Entry as EntryData}
 use Rattle.pi_meaning.specs.Machine.Step.{with_fact, try_facts, back_to}
+use Rattle.pi_engine_settle.specs.Settles.{LeftBy}
+use Rattle.pi_engine_stands.specs.Settling.{NextAfter}
 use Rattle.pi_engine_stands.specs.Stands.{Stands}
 use Rattle.pi_engine_stands.specs.Tries.{CallIs}
 use Rattle.pi_engine_stands.specs.Changes.{Change}
 use Rattle.pi_engine_arenas.specs.declared.frames.Call.{Call}
 
--- a fact is unified with a call, and what is behind the call runs next
+-- a fact is unified with a call, and what is behind the call runs next, after what that left is settled
 pub record TakesFact {M : Type 0} (v u : StoreView M) (ts : Trees) (c : ClauseTree) (call : Call) (now : Now) : Type 0 where
   pub one : Bool
   pub keeps : Keeps v u
   pub answers : Answers (with_fact ts v.now.state c) one u.now.state
-  pub sound : one ≡ true → IsState u.now.state
-  pub next : now ≡ (if one then Now.Going (record { place = 0; count = 0; base = call.base; frame = call.frame }) else Now.Failing)
+  pub left : one ≡ true → LeftBy v.now.state u.now.state
+  pub next : NextAfter one v.now.state u.now.state (record { place = 0; count = 0; base = call.base; frame = call.frame }) now
 
 -- what is asked of a predicate's facts: the predicate, the facts, and the term whose arguments are those of the call
 pub record Asked : Type 0 where

@@ -118,7 +118,7 @@ pub fn apply_built_in<S: StateStore>(
 }
 
 /// The term that is raised, where it isn't memory that ran out.
-fn raised<S: StateStore>(alloc: Global, store: &S, stop: Stop) -> Result<Term, AllocError>
+pub fn raised<S: StateStore>(alloc: Global, store: &S, stop: Stop) -> Result<Term, AllocError>
     ensures { IfOk result (λ made. IsRaised (S.seen store.now) stop made) }
 {
     let Stop::Raised(fault) = stop else {

@@ -19,10 +19,12 @@ ghost use Rattle.pi_engine_arenas.specs.Runs.{across, state_in, terms_in};
 use crate::choices::push_entry;
 use crate::facts::try_clauses;
 use crate::rules::try_rules;
+use crate::settling::next_after;
 use crate::values::{slot_at, value};
 use pi_constraints::StateStore;
 use pi_engine_arenas::{Back, BlocksMark, Call, Kind, Now, Point, Run, Strict, behind};
 use pi_engine_code::{Code, Node, Operand, Predicate, Step};
+use pi_engine_settle::begin;
 use pi_unify::unify;
 use std::alloc::AllocError;
 
@@ -43,12 +45,9 @@ pub fn make_equal<S: StateStore>(
     let b = value(code, run, right, first)?;
     // What a look says of all terms: they speak of variables that were made.
     let _root = run.store.look(a);
+    let since = begin(&mut run.store)?;
     let one = unify(run.alloc, &mut run.store, a, b)?;
-    let next = if one {
-        Now::Going(behind(point, step))
-    } else {
-        Now::Failing
-    };
+    let next = next_after(run.alloc, &run.store, &since, one, behind(point, step))?;
     run.now = next;
     Ok(())
 }

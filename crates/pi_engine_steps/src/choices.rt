@@ -85,12 +85,19 @@ pub fn next_branch<S: StateStore>(
 pub fn one_goal(place: u32, base: usize, frame: usize) -> Now
     ensures { result ≡ Going (record { place = place; count = 1; base = base; frame = frame }) }
 {
-    Now::Going(Point {
+    Now::Going(alone(place, base, frame))
+}
+
+/// The point of one goal.
+pub fn alone(place: u32, base: usize, frame: usize) -> Point
+    ensures { result ≡ record { place = place; count = 1; base = base; frame = frame } }
+{
+    Point {
         place,
         count: 1,
         base,
         frame,
-    })
+    }
 }
 
 /// Puts an entry on the stack that comes back to the present state.

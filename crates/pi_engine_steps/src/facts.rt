@@ -1,8 +1,9 @@
 //! The facts of a call: those that unify with it, and the choice that they leave.
-ghost use Rattle.std.specs.Prelude.{◌≡◌, ◌+◌, ◌≤◌, ◌<◌, true, false, [], List, Some, IfOk, if◌then◌else◌, length, map, slice_get};
+ghost use Rattle.std.specs.Prelude.{◌≡◌, ◌+◌, ◌≤◌, ◌<◌, true, false, [], List, Some, IfOk, length, map, slice_get};
 ghost use Rattle.std.specs.List.{list_any};
 ghost use Rattle.pi_terms.specs.Tree.{Trees, comp};
-ghost use Rattle.pi_constraints.specs.State.{IsState, bindings};
+ghost use Rattle.pi_constraints.specs.State.{bindings};
+ghost use Rattle.pi_engine_stands.specs.Rests.{Rests};
 ghost use Rattle.pi_constraints.specs.Value.{IsAcyclic};
 ghost use Rattle.pi_constraints.specs.Store.{IsTerm, Stays};
 ghost use Rattle.pi_core.specs.CoreTree.{PredTree, clause_tree, pred_tree};
@@ -11,7 +12,7 @@ ghost use Rattle.pi_syntax.specs.declared.program.Mode.{Mode};
 ghost use Rattle.pi_meaning.specs.CoreMeaning.Facts.{fits_modes};
 ghost use Rattle.pi_engine_code.specs.Code.{preds_of};
 ghost use Rattle.pi_engine_arenas.specs.declared.arenas.Kind.TheVariants.{Facts};
-ghost use Rattle.pi_engine_arenas.specs.declared.run.Now.TheVariants.{Going, Failing};
+ghost use Rattle.pi_engine_arenas.specs.declared.run.Now.TheVariants.{Failing};
 ghost use Rattle.pi_engine_arenas.specs.Arenas.{view_of, DropsNewest};
 ghost use Rattle.pi_engine_stands.specs.Tries.{LeavesLater, TriesClauses, TriesFacts};
 ghost use Rattle.pi_engine_stands.specs.Fails.{PassesOver};
@@ -21,11 +22,13 @@ ghost use Rattle.pi_engine_arenas.specs.Runs.{across, state_in};
 
 use crate::raises::take_block;
 use crate::rules::{call_of, keep, try_rules};
+use crate::settling::next_after;
 use pi_constraints::{Ref, StateStore};
 use pi_core::CoreClause;
 use pi_engine_arenas::{Back, Call, Kind, Now, Point, Run};
 use pi_engine_code::{Code, Predicate};
 use pi_engine_facts::{fits_call, next_unifying, unify_fact};
+use pi_engine_settle::begin;
 use std::alloc::AllocError;
 
 /// Goes on with the clauses of a call that was made just now: with rules, or with facts.
@@ -225,7 +228,7 @@ fn take_fact<S: StateStore>(
 ) -> Result<(), AllocError>
     ensures arenas { run.new.arenas ≡ run.old.arenas }
     ensures takes { IfOk result (λ _. (d : Clause) (ts : Trees) → slice_get facts.now place ≡ Some d →
-        IsState (state_in S.seen run.old) → IsTerm (S.seen run.old.store) asked (comp [] ts) →
+        Rests (state_in S.seen run.old) → IsTerm (S.seen run.old.store) asked (comp [] ts) →
         TakesFact (S.seen run.old.store) (S.seen run.new.store) ts (clause_tree d) call.now run.new.now) }
 {
     let Some(fact) = facts.get(place as usize) else {
@@ -243,29 +246,29 @@ fn make_fact<S: StateStore>(
     asked: Ref,
 ) -> Result<(), AllocError>
     ensures arenas { run.new.arenas ≡ run.old.arenas }
-    ensures takes { IfOk result (λ _. (ts : Trees) → IsState (state_in S.seen run.old) →
+    ensures takes { IfOk result (λ _. (ts : Trees) → Rests (state_in S.seen run.old) →
         IsTerm (S.seen run.old.store) asked (comp [] ts) →
         TakesFact (S.seen run.old.store) (S.seen run.new.store) ts (clause_tree fact.now) call.now run.new.now) }
 {
     let head = fact.head.as_slice();
+    // What a look says of all terms: they speak of variables that were made.
+    let _root = run.store.look(asked);
+    let since = begin(&mut run.store)?;
     let one = unify_fact(run.alloc, &mut run.store, head, fact.slots, asked)?;
-    run.now = next_behind(one, call);
+    let next = next_after(run.alloc, &run.store, &since, one, point_behind(call))?;
+    run.now = next;
     Ok(())
 }
 
-/// What is next behind a call whose clause has no body, where a fact of it unifies.
-fn next_behind(one: bool, call: &Call) -> Now
-    ensures { result ≡ (if one then Going (record { place = 0; count = 0; base = call.now.base; frame = call.now.frame }) else Failing) }
+/// What is behind a call whose clause has no body: no goal of a block, and then the frame.
+fn point_behind(call: &Call) -> Point
+    ensures { result ≡ record { place = 0; count = 0; base = call.now.base; frame = call.now.frame } }
 {
-    if one {
-        Now::Going(Point {
-            place: 0,
-            count: 0,
-            base: call.base,
-            frame: call.frame,
-        })
-    } else {
-        Now::Failing
+    Point {
+        place: 0,
+        count: 0,
+        base: call.base,
+        frame: call.frame,
     }
 }
 

@@ -9,12 +9,13 @@ ghost use Rattle.pi_engine_stands.specs.Changes.{Changes, ChangesBy};
 use crate::built_ins::{apply_built_in, call_built_in};
 use crate::calls::{apply, call, give_value, make_equal};
 use crate::choices::{enter_alternatives, enter_sequence};
+use crate::constraints::{apply_domain, constrain};
 use crate::levels::enter_level;
 use crate::lists::count_collected;
 use crate::raises::{enter_catch, throw};
 use crate::terms::call_term;
 use crate::ticks::{tick, tick_call};
-use pi_constraints::StateStore;
+use pi_constraints::{StateStore, StoredDomains};
 use pi_engine_arenas::{Kind, Now, Point, Run, Strict, behind};
 use pi_engine_code::{Code, Node, Step};
 use pi_meaning::{Budget, Mode};
@@ -22,7 +23,7 @@ use std::alloc::AllocError;
 
 /// Runs the first goal of a point, which has one, or the value behind a function's body.
 #[inline(always)]
-pub fn run_goal<S: StateStore>(
+pub fn run_goal<S: StoredDomains>(
     code: &Code<'_>,
     mode: Mode,
     run: &mut Run<S>,
@@ -61,7 +62,7 @@ pub fn run_goal<S: StateStore>(
 /// Runs the first goal of a point, which is none of those that `run_goal` runs at sight. It stands by itself, and is
 /// inlined, so that its copies of the point and of the step are made where they are used alone.
 #[inline(always)]
-fn run_other<S: StateStore>(
+fn run_other<S: StoredDomains>(
     code: &Code<'_>,
     mode: Mode,
     run: &mut Run<S>,
@@ -179,7 +180,7 @@ fn fail_here<S: StateStore>(run: &mut Run<S>, point: Point, step: Step)
 
 /// Runs the first goal of a point, which counts no Tick and isn't run at sight.
 #[inline(never)]
-fn run_silent<S: StateStore>(
+fn run_silent<S: StoredDomains>(
     code: &Code<'_>,
     mode: Mode,
     run: &mut Run<S>,
@@ -198,6 +199,12 @@ fn run_silent<S: StateStore>(
         }
         Node::BuiltInValue(function, _, operands, count, into) => {
             apply_built_in(code, run, point, step, function, operands, count, into)
+        }
+        Node::Constrain(goal, _, operands, count) => {
+            constrain(code, run, point, step, goal, operands, count)
+        }
+        Node::DomainValue(function, _, operands, count, into) => {
+            apply_domain(code, run, point, step, function, operands, count, into)
         }
         Node::Catch(ball) => enter_catch(code, run, point, step, ball),
         Node::If => enter_strict(code, run, point, step, Strict::If(point.place)),

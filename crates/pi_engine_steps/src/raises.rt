@@ -18,13 +18,15 @@ ghost use Rattle.pi_engine_stands.specs.Raises.{Raises, RaisesFrom, IsDropped, T
 ghost use Rattle.pi_engine_stands.specs.Changes.{Changes, ChangesBy};
 ghost use Rattle.pi_engine_arenas.specs.Runs.{state_in};
 
-use crate::choices::{come_back, one_goal};
+use crate::choices::{alone, come_back};
 use crate::levels::enter_level;
 use crate::lists::{count_collected, read_value};
+use crate::settling::next_after;
 use crate::values::value;
 use pi_constraints::{Ref, StateStore};
 use pi_engine_arenas::{Back, Blocks, End, Kind, Now, Point, Run, Strict, behind_level};
 use pi_engine_code::{Code, Node, Operand, Step};
+use pi_engine_settle::begin;
 use pi_terms::Term;
 use pi_unify::{place as place_term, unify};
 use std::alloc::AllocError;
@@ -263,30 +265,38 @@ fn try_catch<S: StateStore>(code: &Code<'_>, run: &mut Run<S>, place: u32) -> Re
     let Some(ball) = now.into_ball() else {
         return Ok(());
     };
-    if is_caught(code, run, back, code.step(place), &ball)? {
-        run.now = one_goal(code.child(place, 1), back.base, back.frame);
+    let handler = alone(code.child(place, 1), back.base, back.frame);
+    let caught = catch_ball(code, run, back, code.step(place), &ball, handler)?;
+    let Some(next) = caught else {
+        run.now = Now::Raising(ball);
         return Ok(());
-    }
-    run.now = Now::Raising(ball);
+    };
+    run.now = next;
     Ok(())
 }
 
-/// Whether the ball of a `catch` unifies with one that was raised.
-fn is_caught<S: StateStore>(
+/// What is next where the ball of a `catch` unifies with one that was raised: its handler is at a point. None where it doesn't.
+fn catch_ball<S: StateStore>(
     code: &Code<'_>,
     run: &mut Run<S>,
     back: Back,
     step: Step,
     ball: &Term,
-) -> Result<bool, AllocError>
-    ensures { IfOk result (λ found. ChangesBy S.seen S.order code.now run.old run.new (TellsCaught back step ball.now found)) }
+    handler: Point,
+) -> Result<Option<Now>, AllocError>
+    ensures { IfOk result (λ next. ChangesBy S.seen S.order code.now run.old run.new (TellsCaught back step ball.now handler next)) }
 {
     let Node::Catch(operand) = step.node else {
-        return Ok(false);
+        return Ok(None);
     };
+    let since = begin(&mut run.store)?;
     let wanted = value(code, run, operand, behind_level(back).first_slot(step))?;
     let raised = place_term(run.alloc, &mut run.store, ball)?;
     // What a look says of all terms: they speak of variables that were made.
     let _root = run.store.look(wanted);
-    unify(run.alloc, &mut run.store, wanted, raised)
+    if !unify(run.alloc, &mut run.store, wanted, raised)? {
+        return Ok(None);
+    }
+    let next = next_after(run.alloc, &run.store, &since, true, handler)?;
+    Ok(Some(next))
 }

@@ -1,4 +1,7 @@
-use Rattle.std.proofs.Common.{◌≡◌, ◌∙◌, ◌^◌, ◌+◌, ◌<◌, Some, Ok, Err, sym, ap, subst, length, arith}
+use Rattle.std.proofs.Common.{◌≡◌, ◌∙◌, ◌^◌, ◌+◌, ◌<◌, Some, Ok, Err, refl, sym, ap, subst, length, arith}
+use Rattle.pi_effects.specs.Effect.{Gives}
+use Rattle.pi_effects.proofs.BuiltInLemmas.{functions-make}
+use Rattle.pi_engine_stands.proofs.ConstraintNames.{built-value}
 use Rattle.std.specs.Prelude.{slice_index_or}
 use Rattle.pi_terms.specs.Tree.{trees_of}
 use Rattle.pi_constraints.specs.Evaluation.{evaluated_all}
@@ -8,7 +11,7 @@ use Rattle.pi_effects.specs.BuiltIns.{built_in_function}
 use Rattle.pi_effects.specs.Results.{ShowsEffect}
 use Rattle.pi_lib_builtin.specs.Names.{function_name, function_arity}
 use Rattle.pi_engine_code.specs.declared.code.Node.{Node}
-use Rattle.pi_engine_code.specs.Code.{tables_of, operand_trees}
+use Rattle.pi_engine_code.specs.Code.{tables_of, operand_trees, node_kind}
 use Rattle.pi_engine_arenas.specs.Arenas.{view_of, between}
 use Rattle.pi_engine_arenas.specs.Frames.{slot_number}
 use Rattle.pi_engine_stands.specs.Here.{AreReadable}
@@ -23,6 +26,7 @@ use Rattle.pi_engine_steps.proofs.built_ins.apply_built_in.Goals as goal
 use Rattle.pi_engine_stands.proofs.RestLemmas.{evaluated-all-rests}
 
 pub returns-in_ok-set-in-Ok : goal.returns-in_ok-set-in-Ok
+unfolding node_kind
 returns-in_ok-set-in-Ok g c = λ name node l is_code view goal gs e k es at stands.
     let v = g.S.StateStore.seen c.args.run.now.store in
     let v1 = g.S.StateStore.seen c.take_arguments.new.run.store in
@@ -55,13 +59,14 @@ returns-in_ok-set-in-Ok g c = λ name node l is_code view goal gs e k es at stan
     let long : length c.deref.result.now ≡ function_arity f = ap length c.deref.ensures.value ∙ terms-count v1 rs all.trees evaluates.terms ∙ all-many args e v.now.state count many ∙ sym readable.1.takes in
     let done : built_in_function (function_name f) all.trees v1.now.state ≡ Some does.0 =
     ap (λ x. built_in_function (function_name f) all.trees x) evaluates.writes.state ∙ sym (readable.1.same all.trees all.state (all-many args e v.now.state count many)) ∙ does.1 in
-    let shows : ShowsEffect v1 v2 (Ok c.in-Ok.made) does.0 = subst (λ r. ShowsEffect v1 v2 r does.0) c.in-Ok.is (c.call_function.ensures.shows all.trees does.0 state.state.acyclic terms long done) in
+    let shows : ShowsEffect v1 v2 (Ok c.in-Ok.made) does.0 = subst (λ r. ShowsEffect v1 v2 r does.0) c.in-Ok.is (c.call_function.ensures.shows all.trees does.0 state.calm.state.acyclic terms long done) in
     let size = going-size w p s goal gs e k at is in
     let fit : p.place + s.size < 2 ^ 32 = omega (arith, size.0, size.1) in
-    value-step w v1 v2 a1 c.set.new.self p c.behind.result s f name first count c.args.into c.first_slot-first.result c.slot_at.result rs c.in-Ok.made shows.0 shows.1 view goal gs e k es node at stands evaluates (does.1 ∙ ap Some shows.2) shows.3 readable.2 begins
+    value-step w v1 v2 a1 c.set.new.self p c.behind.result s (Node.BuiltInValue f name first count c.args.into) name first count c.args.into c.first_slot-first.result c.slot_at.result rs c.in-Ok.made shows.0 shows.1 view goal gs e k es node refl at stands evaluates (built-value word all.trees all.state (Gives shows.0 shows.1) (does.1 ∙ ap Some shows.2)) (functions-make word all.trees all.state (Gives shows.0 shows.1) (does.1 ∙ ap Some shows.2)) shows.3 readable.2 begins
     c.slot_at.ensures c.in_ok-set-in-Ok.ensures.ok c.in_ok-set-in-Ok.ensures.kept c.in_ok-set-in-Ok.ensures.keeps c.in_ok-set-in-Ok.ensures.most (c.behind.ensures fit)
 
 pub returns-in_ok-ball-in-Err : goal.returns-in_ok-ball-in-Err
+unfolding node_kind
 returns-in_ok-ball-in-Err g c = λ name node l is_code view goal gs e k es at stands.
     let v = g.S.StateStore.seen c.args.run.now.store in
     let v1 = g.S.StateStore.seen c.take_arguments.new.run.store in
@@ -94,6 +99,6 @@ returns-in_ok-ball-in-Err g c = λ name node l is_code view goal gs e k es at st
     let long : length c.deref.result.now ≡ function_arity f = ap length c.deref.ensures.value ∙ terms-count v1 rs all.trees evaluates.terms ∙ all-many args e v.now.state count many ∙ sym readable.1.takes in
     let done : built_in_function (function_name f) all.trees v1.now.state ≡ Some does.0 =
     ap (λ x. built_in_function (function_name f) all.trees x) evaluates.writes.state ∙ sym (readable.1.same all.trees all.state (all-many args e v.now.state count many)) ∙ does.1 in
-    let shows : ShowsEffect v1 v2 (Err c.in-Err.stop) does.0 = subst (λ r. ShowsEffect v1 v2 r does.0) c.in-Err.is (c.call_function.ensures.shows all.trees does.0 state.state.acyclic terms long done) in
-    let told = value-raised v1 v2 c.in-Err.stop does.0 c.in_ok-ball-in-Err.ball state.state.acyclic shows c.in_ok-ball-in-Err.ensures in
-    refusal-step w v1 v2 a1 p s f name first count c.args.into rs c.in_ok-ball-in-Err.ball view goal gs e k es node at stands evaluates told.1 (does.1 ∙ ap Some told.0)
+    let shows : ShowsEffect v1 v2 (Err c.in-Err.stop) does.0 = subst (λ r. ShowsEffect v1 v2 r does.0) c.in-Err.is (c.call_function.ensures.shows all.trees does.0 state.calm.state.acyclic terms long done) in
+    let told = value-raised v1 v2 c.in-Err.stop does.0 c.in_ok-ball-in-Err.ball state.calm.state.acyclic shows c.in_ok-ball-in-Err.ensures in
+    refusal-step w v1 v2 a1 p s (Node.BuiltInValue f name first count c.args.into) name first count c.args.into rs c.in_ok-ball-in-Err.ball view goal gs e k es node refl at stands evaluates told.1 (built-value word all.trees all.state _ (does.1 ∙ ap Some told.0))

@@ -55,8 +55,8 @@ returns g c = λ name node l is_code view fits goal gs e k es at stands.
     let done : built_in_predicate (predicate_name c.args.predicate) all.trees v1.now.state ≡ _ =
     ap (λ x. built_in_predicate (predicate_name c.args.predicate) all.trees x) evaluates.writes.state ∙ sym (readable.1.0.same all.trees all.state (all-many args e v.now.state count many)) ∙ does.1 in
     let stays : Stays v1 v2 = c.call_predicate-outcome.ensures.stays readable.1.1 in
-    let shows = c.call_predicate-outcome.ensures.shows all.trees does.0 state.state terms (ap (takes c.args.predicate) long ∙ readable.1.0.takes) done in
+    let shows = c.call_predicate-outcome.ensures.shows all.trees does.0 state.calm.state terms (ap (takes c.args.predicate) long ∙ readable.1.0.takes) done in
     let size = going-size w p s goal gs e k at is in
     let fit : p.place + s.size < 2 ^ 32 = omega (arith, size.0, size.1) in
-    let next = subst (λ q. ComesNext c.args.mode q does.0 v2.now.state c.in_ok-next.next) (c.behind.ensures fit) (c.in_ok-next.ensures v1 does.0 state.state shows) in
+    let next = subst (λ q. ComesNext c.args.mode q does.0 v2.now.state c.in_ok-next.next) (c.behind.ensures fit) (c.in_ok-next.ensures v1 does.0 state.calm.state shows) in
     effect-step w v1 v2 a1 p s c.args.predicate name first count rs does.0 c.args.mode c.in_ok-next.next view goal gs e k es node at stands fits evaluates stays does.1 next

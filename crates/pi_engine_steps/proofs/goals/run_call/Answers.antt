@@ -23,7 +23,7 @@ returns-then-not-tick_call-clause-goes g c = λ node l is_code v fits names d is
     let called = c.in-Some.called.now in
     let at : slice_get c.args.code.now.predicates.items c.args.predicate ≡ Some called = sym c.predicate_there.ensures ∙ ap option_copied c.in-Some.is in
     let known : IsFound w c.args.predicate called = found-there w c.args.predicate called (ap (λ r. slice_get r.predicates.items c.args.predicate) is_code ∙ at) in
-    call-refused w c.args.point c.args.step c.tick_call.new.now d v names called.is_quiet c.args.mode c.args.budget.now c.tick_call.new.budget run.now is
+    call-refused w c.args.point c.args.step c.tick_call.new.now d v names called.is_quiet c.args.mode c.args.budget.now c.tick_call.new.budget run.now fits is
     (call-there w c.args.point c.args.step d v names c.args.predicate c.args.operands called is node known)
     (subst (TicksUnless called.is_quiet (counting c.args.mode c.args.budget.now c.tick_call.new.budget) run.now c.tick_call.new.now) c.if-not-tick_call.true c.tick_call.ensures.ticks)
 

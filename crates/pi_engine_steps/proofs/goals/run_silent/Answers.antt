@@ -38,3 +38,9 @@ returns-in-BuiltIn g c = IfOk-weaker c.call_built_in.result _ _ (λ _ so l is_co
 
 pub returns-in-BuiltInValue : goal.returns-in-BuiltInValue
 returns-in-BuiltInValue g c = IfOk-weaker c.apply_built_in.result _ _ (λ _ so l is_code other silent view fits. so c.in-BuiltInValue.field-1 c.in-BuiltInValue.is l is_code view) c.apply_built_in.ensures
+
+pub returns-in-Constrain : goal.returns-in-Constrain
+returns-in-Constrain g c = IfOk-weaker c.constrain.result _ _ (λ _ so l is_code other silent view fits. so c.in-Constrain.field-1 c.in-Constrain.is l is_code view) c.constrain.ensures
+
+pub returns-in-DomainValue : goal.returns-in-DomainValue
+returns-in-DomainValue g c = IfOk-weaker c.apply_domain.result _ _ (λ _ so l is_code other silent view fits. so c.in-DomainValue.field-1 c.in-DomainValue.is l is_code view) c.apply_domain.ensures

@@ -29,7 +29,7 @@ returns-in_ok-push_empty g c = IfOk-weaker c.pass_tests.result _ _ (λ one so l 
     let empty : Emptied run.arenas.blocks cut (call.base + arity) = call-emptied w cut call.predicate call.base call.frame number first called (clause ∷ cs) s k es again is place c.truncate.ensures.fewer c.truncate.ensures.keeps c.truncate.ensures.kept in
     let its : IsRuleOf l.code (tables_in l) v.names is.call.call.pred clause rule = call-rule w call.predicate call.base call.frame number rule called clause cs s k es again is at in
     let front : KeepsFront run.arenas.blocks d (call.base + arity) = front-added run.arenas.blocks cut d (call.base + arity) _ empty c.in_ok-push_empty.ensures.ok c.push_empty.ensures.keeps c.push_empty.ensures.kept in
-    let slots : RuleSlots v d b (replicate b.count None) = slots-added v cut d b rule.slots is.state.state empty.exact (omega (arith, empty.keeps.kept, is.over)) its.slots c.in_ok-push_empty.ensures.ok c.push_empty.ensures.kept in
+    let slots : RuleSlots v d b (replicate b.count None) = slots-added v cut d b rule.slots is.state.calm.state empty.exact (omega (arith, empty.keeps.kept, is.over)) its.slots c.in_ok-push_empty.ensures.ok c.push_empty.ensures.kept in
     let tests : HasTests v.names clause.head c.tests_of-tests.result.now = tests-read v.names clause.head l.code.tests.items c.tests_of-tests.result.now rule.tests c.args.arity its.tests (its.patterns ∙ sym same)
     (subst (λ n. NoneIsDeep (take n (drop rule.tests l.code.tests.items))) (sym same) (its.shallow c.if-rule.false))
     (subst (λ q. rule.tests + c.args.arity ≤ length q.tests.items → c.tests_of-tests.result.now ≡ take c.args.arity (drop rule.tests q.tests.items)) (sym is_code) c.tests_of-tests.ensures.within) c.tests_of-tests.ensures.none in
@@ -58,7 +58,7 @@ returns-then-rule g c = IfOk-weaker c.matches_patterns.result _ _ (λ one so l i
     let its : IsRuleOf l.code (tables_in l) v.names is.call.call.pred clause rule = call-rule w call.predicate call.base call.frame number rule called clause cs s k es again is at in
     let has : HasPatterns clause.head arity found = call-patterns w call.predicate call.base call.frame number rule found called clause cs s k es again is its (subst (λ q. LooksUp q call.predicate number found) (sym is_code) c.head-patterns.ensures) in
     let told : FillsHead v.now.terms cut c.matches_patterns.new.blocks b one (matched_all_in (bindings v.now.state) (pattern_trees found) called.args (replicate rule.slots None)) =
-    so b called.args empty.exact (omega (arith, has.many)) (sym its.slots) (omega (arith, empty.keeps.kept, is.over)) is.state.state
+    so b called.args empty.exact (omega (arith, has.many)) (sym its.slots) (omega (arith, empty.keeps.kept, is.over)) is.state.calm.state
     (call-arguments w cut call.base arity (length found) called has.many empty.keeps args) in
     let all = head-tried w c.matches_patterns.new.blocks call.predicate call.base call.frame number one called clause cs s k es again is cut empty.keeps
     (subst (λ ps. FillsHead v.now.terms cut c.matches_patterns.new.blocks b one (matched_all_in (bindings v.now.state) ps called.args (replicate clause.slots None))) has.are

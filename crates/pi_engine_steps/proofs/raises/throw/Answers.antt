@@ -37,5 +37,5 @@ returns g c = λ node l is_code view goal gs e k es at stands.
     subst (λ t. Evaluates b (between v v1 a a1) (evaluated (operand_tree t c.args.operand) e v.now.state) q) (sym tables)
     (c.in_ok-term.ensures.ok l.terms b e first (subst (λ t. IsReadable t b c.args.operand) tables readable) stands.entries.tables is.behind.slots) in
     let state : Rests v1.now.state = subst Rests (sym one.writes.state) (evaluated-rests (operand_tree T c.args.operand) e v.now.state stands.entries.state) in
-    let raised = subst (λ r. c.in_ok-ball.ball ≡ raised_for (value (bindings r) x.tree)) one.writes.state (c.in_ok-ball.ensures x.tree one.term state.state.acyclic) in
+    let raised = subst (λ r. c.in_ok-ball.ball ≡ raised_for (value (bindings r) x.tree)) one.writes.state (c.in_ok-ball.ensures x.tree one.term state.calm.state.acyclic) in
     throw-step w v1 a1 p s c.args.operand q c.in_ok-ball.ball view goal gs e k es node at stands one raised
