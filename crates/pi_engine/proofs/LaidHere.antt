@@ -20,8 +20,9 @@ use Rattle.pi_engine_code.specs.declared.code.Code.{Code}
 use Rattle.pi_engine_code.specs.Code.{Tables, node_kind, step_cell, operand_tree, operand_trees, arguments}
 use Rattle.pi_engine_stands.specs.Here.{Block, AreReadable, NodeIsReadable, SaysLast, SayLast, LastOfAll, EachLast, IsHere, IsValueHere}
 use Rattle.pi_engine_stands.specs.Stands.{HasNumber}
-use Rattle.pi_engine_code.specs.Laid.{tables_for, IsNamed, IsNotBuiltIn, IsUnknown, IsEffectOf, IsNodeOf, OperandsAt, Marked, mark, marked, marked_seq, marked_each, IsStepFor, StepsAt, IsLaid, IsValueLaid, IsResolved, AreResolved, layout}
+use Rattle.pi_engine_code.specs.Laid.{tables_for, IsNamed, IsNotBuiltIn, IsUnknown, IsEffectOf, IsDomainFunctionNamed, IsNodeOf, OperandsAt, Marked, mark, marked, marked_seq, marked_each, IsStepFor, StepsAt, IsLaid, IsValueLaid, IsResolved, AreResolved, layout}
 use Rattle.pi_lib_builtin.specs.Resolved.{IsFunctionNamed}
+use Rattle.pi_lib_constraints.specs.Named.{IsConstraintNamed}
 use Rattle.pi_engine_code.proofs.LaidGoals.{goals-in, length-marked}
 use Rattle.pi_engine_stands.proofs.ReadsHere.{drop-got, got-index, operand-reads, operands-read, operand-readable, operands-within, operands-readable}
 use Rattle.pi_engine_stands.proofs.KnownGoals.{goal-known}
@@ -76,6 +77,12 @@ node-reads ps terms code k (Node.BuiltIn built m first arity) is known =
     ap (λ name. GoalKind.Call name (operand_trees (tables_for ps terms code) first arity)) (name-read (tables_for ps terms code) m is.0 is.3)
     ∙ ap (GoalKind.Call is.0) (operands-taken ps terms code first arity is.1 is.4 is.6) ∙ sym is.2
 node-reads ps terms code k (Node.BuiltInValue built m first arity slot) is known =
+    ap (λ name. GoalKind.Apply name (operand_trees (tables_for ps terms code) first arity) slot) (name-read (tables_for ps terms code) m is.0 is.3)
+    ∙ ap (λ us. GoalKind.Apply is.0 us slot) (operands-taken ps terms code first arity is.1 is.4 is.6) ∙ sym is.2
+node-reads ps terms code k (Node.Constrain g m first arity) is known =
+    ap (λ name. GoalKind.Call name (operand_trees (tables_for ps terms code) first arity)) (name-read (tables_for ps terms code) m is.0 is.3)
+    ∙ ap (GoalKind.Call is.0) (operands-taken ps terms code first arity is.1 is.4 is.6) ∙ sym is.2
+node-reads ps terms code k (Node.DomainValue f m first arity slot) is known =
     ap (λ name. GoalKind.Apply name (operand_trees (tables_for ps terms code) first arity) slot) (name-read (tables_for ps terms code) m is.0 is.3)
     ∙ ap (λ us. GoalKind.Apply is.0 us slot) (operands-taken ps terms code first arity is.1 is.4 is.6) ∙ sym is.2
 node-reads ps terms code k (Node.CallTerm first arity) is known = ap (GoalKind.Call (codes "call")) (operands-taken ps terms code first arity is.0 is.2 is.4) ∙ sym is.1
@@ -146,6 +153,16 @@ node-readable ps terms code b k (Node.BuiltInValue built m first arity slot) is 
     let all : ((u : Tree) → Contains is.1 u → SpeaksBelow b.count u) × (slot < b.count) = subst (KindBelow b.count) is.2 below in (
       built-readable ps terms code b first arity is.1 is.4 is.6 all.0,
       subst (λ n. IsFunctionNamed n arity built) (sym (name-read (tables_for ps terms code) m is.0 is.3)) (subst (λ n. IsFunctionNamed is.0 n built) (sym is.4) is.5),
+      all.1,
+    )
+node-readable ps terms code b k (Node.Constrain g m first arity) is below = (
+  built-readable ps terms code b first arity is.1 is.4 is.6 (subst (KindBelow b.count) is.2 below),
+  subst (λ n. IsConstraintNamed n arity g) (sym (name-read (tables_for ps terms code) m is.0 is.3)) (subst (λ n. IsConstraintNamed is.0 n g) (sym is.4) is.5),
+)
+node-readable ps terms code b k (Node.DomainValue f m first arity slot) is below =
+    let all : ((u : Tree) → Contains is.1 u → SpeaksBelow b.count u) × (slot < b.count) = subst (KindBelow b.count) is.2 below in (
+      built-readable ps terms code b first arity is.1 is.4 is.6 all.0,
+      subst (λ n. IsDomainFunctionNamed n arity f) (sym (name-read (tables_for ps terms code) m is.0 is.3)) (subst (λ n. IsDomainFunctionNamed is.0 n f) (sym is.4) is.5),
       all.1,
     )
 node-readable ps terms code b k (Node.CallTerm first arity) is below =
@@ -337,6 +354,8 @@ has-number ps (Node.Apply m first slot) is = (pred_tree is.2.pred, slice_get-map
 has-number ps (Node.Value value) is = tt
 has-number ps (Node.BuiltIn built m first arity) is = tt
 has-number ps (Node.BuiltInValue built m first arity slot) is = tt
+has-number ps (Node.Constrain g m first arity) is = tt
+has-number ps (Node.DomainValue f m first arity slot) is = tt
 has-number ps (Node.CallTerm first arity) is = tt
 
 pub have-numbers : (ps : List CorePred) (steps : List Step) → AreResolved ps steps → (i : ℕ) (s : Step) → slice_get steps i ≡ Some s → HasNumber (map pred_tree ps) s.node

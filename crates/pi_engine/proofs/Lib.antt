@@ -1,7 +1,10 @@
 pub mod LaidHere
 pub mod LaidCode
 pub mod RunBegins
-pub mod TurnsGo
+pub mod SpendLemmas
+mod TurnsGo
+mod DueTurns
+mod LoadRuns
 pub mod NextTurns
 pub mod RunsTold
 pub mod CountLemmas

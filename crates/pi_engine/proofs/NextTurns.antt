@@ -15,7 +15,6 @@ use Rattle.pi_engine_arenas.specs.declared.run.Telling.{Telling}
 use Rattle.pi_engine_arenas.specs.declared.run.Now.{Now}
 use Rattle.pi_engine.specs.declared.turns.Outcome.{Outcome as CodeOutcome}
 use Rattle.pi_engine_stands.specs.Answers.{AreNames}
-use Rattle.pi_meaning.specs.Machine.Budget.{Counts}
 use Rattle.pi_meaning.specs.Machine.Built.{AreOfRules}
 use Rattle.pi_meaning.specs.Machine.Configuration.{Config}
 use Rattle.pi_meaning.specs.Machine.Leads.{Leads}
@@ -25,6 +24,7 @@ use Rattle.pi_engine_stands.specs.Stands.{World, Loaded}
 use Rattle.pi_engine_stands.specs.Views.{Fits}
 use Rattle.pi_engine.specs.Seen.{MachineView, told_end, end_in, stopped}
 use Rattle.pi_engine.specs.Happens.{IsBuiltSoFar, IsRepeated}
+use Rattle.pi_engine.specs.Spends.{Spends}
 use Rattle.pi_engine.specs.Turns.{AreCutShort, Counted, StepIs, IsRunning, HappensNext, NextComes, IsAnswered, RepeatsEnd, Lasts, with_budget}
 use Rattle.pi_meaning.proofs.Machine.LeadLemmas.{leads-none}
 use Rattle.pi_engine.proofs.TurnsGo.{nothing-counted, counted-then, more-goes, answer-goes, told-goes}
@@ -33,6 +33,7 @@ use Rattle.pi_engine.proofs.TurnsGo.{nothing-counted, counted-then, more-goes, a
 
 pub running-unspent : (mode : Mode) (b : Budget) (now : Now) → IsRunning now → IsSpent mode b now
 running-unspent mode b (Now.Going p) running = tt
+running-unspent mode b (Now.Settling it) running = tt
 running-unspent mode b (Now.Telling told) running = tt
 running-unspent mode b Now.Failing running = tt
 running-unspent mode b (Now.Raising ball) running = tt
@@ -40,6 +41,7 @@ running-unspent mode b (Now.Ended e) running = absurd running
 
 pub running-of : (now : Now) → ((e : RunEnd) → now ≢ Now.Ended e) → IsRunning now
 running-of (Now.Going p) other = tt
+running-of (Now.Settling it) other = tt
 running-of (Now.Telling told) other = tt
 running-of Now.Failing other = tt
 running-of (Now.Raising ball) other = tt
@@ -66,7 +68,7 @@ pub record Turned {M : Type 0} (v : View) (names : List NameSlot) (mode : Mode) 
   pub spent : IsRunning old → IsSpent mode b now
 
 pub record SoFar {R M : Type 0} (code : Code) (names : List NameSlot) (mode : Mode) (a b : Budget) (first present : R) (before after : Loaded → World M) (old now : Now) (turn : ℕ) : Type 0 where
-  pub counts : Counts mode a b
+  pub counts : Spends mode a b
   pub turns : (l : Loaded) → l.code ≡ code → AreNames l.query_slots names → (v : View) → Fits mode v → (c : Config) → IsIn v names (before l) old c → Turned v names mode a b (after l) old now c
   pub still : (e : RunEnd) → old ≡ Now.Ended e → (present ≡ first) × (b ≡ a) × (turn ≡ 0)
 
@@ -79,7 +81,7 @@ no-turns v names mode b w now c is =
       spent = λ running. running-unspent mode b now running;
     }
 
-pub one-turn : {M : Type 0} (v : View) (names : List NameSlot) (mode : Mode) (a b d : Budget) (first w after : World M) (old now next : Now) (c : Config) → w.loaded ≡ first.loaded → w.loaded ≡ after.loaded → Counts mode a b → Counts mode b d → IsRunning now → IsIn v names first old c →
+pub one-turn : {M : Type 0} (v : View) (names : List NameSlot) (mode : Mode) (a b d : Budget) (first w after : World M) (old now next : Now) (c : Config) → w.loaded ≡ first.loaded → w.loaded ≡ after.loaded → Spends mode a b → Spends mode b d → IsRunning now → IsIn v names first old c →
     (it : Turned v names mode a b w old now c) → (IsIn v names w now it.goes.comes → StepIs v names mode b d after next it.goes.comes CodeOutcome.More) → Turned v names mode a d after old next c
 one-turn v names mode a b d first w after old now next c from same one two on is it steps =
     let step = steps (record { is = it.goes.is; good = it.goes.good; rules = subst (λ l. AreOfRules l.preds) (sym from) is.rules }) in
@@ -137,7 +139,7 @@ memory-comes v names mode a b w after old now next h c same ended told it =
     }
 
 -- an answer
-pub answer-comes : {M : Type 0} (v : View) (names : List NameSlot) (mode : Mode) (a b d : Budget) (first w after : World M) (old now next : Now) (c : Config) (told : Box Answer Global) (x : Answer) → x ≡ told.value → w.loaded ≡ first.loaded → w.loaded ≡ after.loaded → Counts mode a b → Counts mode b d → IsRunning now → IsIn v names first old c →
+pub answer-comes : {M : Type 0} (v : View) (names : List NameSlot) (mode : Mode) (a b d : Budget) (first w after : World M) (old now next : Now) (c : Config) (told : Box Answer Global) (x : Answer) → x ≡ told.value → w.loaded ≡ first.loaded → w.loaded ≡ after.loaded → Spends mode a b → Spends mode b d → IsRunning now → IsIn v names first old c →
     (it : Turned v names mode a b w old now c) → (IsIn v names w now it.goes.comes → StepIs v names mode b d after next it.goes.comes (CodeOutcome.Answered told)) → NextComes v names mode a d after old next c (Happening.Answer x)
 answer-comes v names mode a b d first w after old now next c told x unboxed from same one two on is it steps =
     let step = steps (record { is = it.goes.is; good = it.goes.good; rules = subst (λ l. AreOfRules l.preds) (sym from) is.rules }) in
@@ -153,7 +155,7 @@ answer-comes v names mode a b d first w after old now next c told x unboxed from
     }
 
 -- a text
-pub told-comes : {M : Type 0} (v : View) (names : List NameSlot) (mode : Mode) (a b d : Budget) (first w after : World M) (old now next : Now) (c : Config) (told : Box Telling Global) (text : List ℕ) → text ≡ told.value.text → w.loaded ≡ first.loaded → w.loaded ≡ after.loaded → Counts mode a b → Counts mode b d → IsRunning now → IsIn v names first old c →
+pub told-comes : {M : Type 0} (v : View) (names : List NameSlot) (mode : Mode) (a b d : Budget) (first w after : World M) (old now next : Now) (c : Config) (told : Box Telling Global) (text : List ℕ) → text ≡ told.value.text → w.loaded ≡ first.loaded → w.loaded ≡ after.loaded → Spends mode a b → Spends mode b d → IsRunning now → IsIn v names first old c →
     (it : Turned v names mode a b w old now c) → (IsIn v names w now it.goes.comes → StepIs v names mode b d after next it.goes.comes (CodeOutcome.Told told)) → NextComes v names mode a d after old next c (Happening.Out text)
 told-comes v names mode a b d first w after old now next c told text unboxed from same one two on is it steps =
     let step = steps (record { is = it.goes.is; good = it.goes.good; rules = subst (λ l. AreOfRules l.preds) (sym from) is.rules }) in
@@ -190,6 +192,7 @@ one-end x y same = cc
 pub repeated-as : {R M : Type 0} (f : R → MachineView M) (stop : R → R) (old new : R) (b c : Budget) (end h : Happening) → f (stop old) ≡ stopped (f old) → (now : Now) → end_in now ≡ Some end →
     ((e : RunEnd) → now ≡ Now.Ended e → RepeatsEnd stop e (with_budget old b) (with_budget new c) h) → IsRepeated end (f old) (f new) b c h
 repeated-as f stop old new b c end h stops (Now.Going p) at repeats = absurd cc
+repeated-as f stop old new b c end h stops (Now.Settling it) at repeats = absurd cc
 repeated-as f stop old new b c end h stops (Now.Telling told) at repeats = absurd cc
 repeated-as f stop old new b c end h stops Now.Failing at repeats = absurd cc
 repeated-as f stop old new b c end h stops (Now.Raising ball) at repeats = absurd cc

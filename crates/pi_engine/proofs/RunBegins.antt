@@ -21,6 +21,7 @@ use Rattle.pi_engine_arenas.specs.Arenas.{ArenasView, no_arenas}
 use Rattle.pi_engine_stands.specs.Here.{Block, AreHeld, IsHere, last_here, answers}
 use Rattle.pi_meaning.specs.Machine.Shape.{open_level}
 use Rattle.pi_meaning.specs.Machine.Configuration.{config, going}
+use Rattle.pi_settling.proofs.CalmLemmas.{empty_is_calm}
 use Rattle.pi_engine_stands.specs.Stands.{Loaded, tables_in, steps_of, world, IsCodeOf, no_entries, Stands, NowIs, going_now}
 use Rattle.pi_engine_code.specs.LaidRules.{IsFilled, in_tables}
 use Rattle.pi_engine.specs.Begins.{asked, loaded_with, Begins, begun}
@@ -54,7 +55,7 @@ run-begins l v order trail place g code empty same here =
     record {
       entries = record {
         code = code;
-        state = subst Rests (sym empty) (record { state = empty-is-state; none_posted = refl; none_made = refl });
+        state = subst Rests (sym empty) (record { calm = empty_is_calm; none_made = refl });
         tables = λ n x at. ap (λ t. t n) (sym same) ∙ at;
         level = refl;
         kept = refl;

@@ -1,11 +1,11 @@
 -- What a call of `next` comes to, for those that use the machine.
 use Rattle.std.proofs.Common.{◌≡◌, inl, ℕ, suc, ◌<◌, List, [], ◌∷◌, ◌++◌, Some, None, refl, ap, sym, subst, append_assoc, arith}
-use Rattle.std.specs.Prelude.{Contains}
+use Rattle.std.specs.Prelude.{Contains, true, false, IsTrue}
 use Rattle.pi_terms.specs.Tree.{Tree}
 use Rattle.pi_constraints.specs.Store.{StoreView}
 use Rattle.pi_meaning.specs.Shared.View.{View}
 use Rattle.pi_core.specs.CoreTree.{PredTree, QueryTree}
-use Rattle.pi_traces.specs.Trace.{End, Done, Raise, Tick, Out, Emitted, noted, answered}
+use Rattle.pi_traces.specs.Trace.{End, Done, Raise, Note, Tick, Load, Out, Emitted, noted, answered}
 use Rattle.pi_meaning.specs.CoreMeaning.Run.{Solution}
 use Rattle.pi_meaning.specs.CoreMeaning.Sound.{IsSoundQuery}
 use Rattle.pi_core.specs.declared.core_program.NameSlot.{NameSlot}
@@ -19,16 +19,18 @@ use Rattle.pi_engine_stands.specs.Answers.{AreNames}
 use Rattle.pi_engine.specs.Begins.{Begins, begun}
 use Rattle.pi_meaning.specs.Machine.Built.{AreOfRules}
 use Rattle.pi_meaning.specs.Machine.Configuration.{Config}
-use Rattle.pi_meaning.specs.Machine.Budget.{AreStepsUsed, IsWorkUsed, IsInner}
-use Rattle.pi_engine_stands.specs.Goes.{HasNone, IsAt, IsSpent, IsIn}
-use Rattle.pi_meaning.specs.Machine.Leads.{Leads, IsAtEnd, IsAtTick}
-use Rattle.pi_engine.specs.Seen.{MachineView, end_in, HasEnded, GoesOn, Fits, IsException}
+use Rattle.pi_meaning.specs.Machine.Budget.{AreStepsUsed, IsWorkUsed}
+use Rattle.pi_engine_stands.specs.Goes.{IsWorkIn, IsAt, IsSpent, IsIn}
+use Rattle.pi_meaning.specs.Shared.Within.{Within, a_query, is_body}
+use Rattle.pi_meaning.specs.Machine.Leads.{Leads, IsAtEnd, IsAtTick, IsAtNote}
+use Rattle.pi_engine.specs.Seen.{MachineView, end_in, HasEnded, GoesOn, Fits, IsException, IsWork}
 use Rattle.pi_engine.specs.Inside.{loaded_as, run_of, HasComeTo, IsPlaced}
 use Rattle.pi_engine.specs.Runs.{RunsTo, EndsWith}
 use Rattle.pi_engine.specs.Happens.{AreCutOff, Adds, StandsBefore, Comes, Happens, course, lasting}
 use Rattle.pi_meaning.specs.Machine.Step.{start}
 use Rattle.pi_engine.specs.Turns.{AreCutShort, Counted, IsRunning, NextComes, Lasts}
 use Rattle.pi_engine.proofs.TurnsGo.{none-while-running}
+use Rattle.pi_engine.proofs.LoadRuns.{load-prefix}
 use Rattle.pi_engine_stands.specs.Stands.{World, Stands}
 use Rattle.pi_engine_stands.proofs.GoalsGo.{no-end}
 use Rattle.pi_meaning.proofs.Machine.LeadLemmas.{leads-none, leads-on, start-good}
@@ -44,6 +46,7 @@ later m store arenas now = record { code = m.code; names = m.names; mode = m.mod
 
 pub running-in : (now : Now) → end_in now ≡ None → IsRunning now
 running-in (Now.Going p) on = tt
+running-in (Now.Settling it) on = tt
 running-in (Now.Telling told) on = tt
 running-in Now.Failing on = tt
 running-in (Now.Raising ball) on = tt
@@ -51,6 +54,7 @@ running-in (Now.Ended e) on = absurd cc
 
 pub goes-on-in : (now : Now) → IsRunning now → end_in now ≡ None
 goes-on-in (Now.Going p) running = refl
+goes-on-in (Now.Settling it) running = refl
 goes-on-in (Now.Telling told) running = refl
 goes-on-in Now.Failing running = refl
 goes-on-in (Now.Raising ball) running = refl
@@ -71,22 +75,34 @@ lasting-in now Happening.Memory lasts = ap end_in lasts
 -- a run that has not ended stands for a configuration
 at-running : {M : Type 0} (v : View) (names : List NameSlot) (mode : Mode) (w : World M) (now : Now) (c : Config) → IsRunning now → HasComeTo v names mode w now c → IsAt v names w now c
 at-running v names mode w (Now.Going p) c running is = is
+at-running v names mode w (Now.Settling it) c running is = is
 at-running v names mode w (Now.Telling told) c running is = is
 at-running v names mode w Now.Failing c running is = is
 at-running v names mode w (Now.Raising ball) c running is = is
 at-running v names mode w (Now.Ended e) c running is = absurd running
 
+-- what is work under a view is work of a machine that fits it
+not-body : (x : Within) → x ≡ a_query → IsTrue (is_body x) → ⊥
+not-body x is body = let none : false ≡ true = subst (λ y. IsTrue (is_body y)) is body in cc
+
+work-of : (v : View) (mode : Mode) (n : Note) → Fits mode v → IsWorkIn v n → IsWork mode n
+work-of v Mode.Top Tick fits is = absurd (not-body v.within fits is)
+work-of v (Mode.Inner rest) Tick fits is = tt
+work-of v mode (Load k) fits is = tt
+work-of v mode (Out text) fits is = is
+
 -- what the code's steps come to is where the run is then
-comes-to : {M : Type 0} (v : View) (names : List NameSlot) (mode : Mode) (b : Budget) (w : World M) (now : Now) (c : Config) → IsSpent mode b now → IsAt v names w now c → HasComeTo v names mode w now c
-comes-to v names mode b w (Now.Going p) c spent is = is
-comes-to v names mode b w (Now.Telling told) c spent is = is
-comes-to v names mode b w Now.Failing c spent is = is
-comes-to v names mode b w (Now.Raising ball) c spent is = is
-comes-to v names mode b w (Now.Ended RunEnd.Done) c spent is = is
-comes-to v names mode b w (Now.Ended (RunEnd.Raised ball)) c spent is = (Raise ball, inl refl, is)
-comes-to v names mode b w (Now.Ended RunEnd.StepsSpent) c spent is = (spent.0, is)
-comes-to v names mode b w (Now.Ended RunEnd.WorkSpent) c spent is = (Tick, spent.0, is)
-comes-to v names mode b w (Now.Ended RunEnd.Memory) c spent is = tt
+comes-to : {M : Type 0} (v : View) (names : List NameSlot) (mode : Mode) (b : Budget) (w : World M) (now : Now) (c : Config) → Fits mode v → IsSpent mode b now → IsAt v names w now c → HasComeTo v names mode w now c
+comes-to v names mode b w (Now.Going p) c fits spent is = is
+comes-to v names mode b w (Now.Settling it) c fits spent is = is
+comes-to v names mode b w (Now.Telling told) c fits spent is = is
+comes-to v names mode b w Now.Failing c fits spent is = is
+comes-to v names mode b w (Now.Raising ball) c fits spent is = is
+comes-to v names mode b w (Now.Ended RunEnd.Done) c fits spent is = is
+comes-to v names mode b w (Now.Ended (RunEnd.Raised ball)) c fits spent is = (Raise ball, inl refl, is)
+comes-to v names mode b w (Now.Ended RunEnd.StepsSpent) c fits spent is = (spent.0, is)
+comes-to v names mode b w (Now.Ended RunEnd.WorkSpent) c fits spent is = (is.0, work-of v mode is.0 fits is.1, is.2)
+comes-to v names mode b w (Now.Ended RunEnd.Memory) c fits spent is = tt
 
 -- where a run is, for what a call of `next` needs
 pub placed-in : {M : Type 0} (v : View) (m : MachineView M) (program : List PredTree) (q : QueryTree) (events : List (Emitted Solution)) → GoesOn m → (p : IsPlaced v m program q events) → IsIn v q.names (run_of m (loaded_as m p.terms program q)) m.now p.config
@@ -110,7 +126,7 @@ runs-on v m program q events more store arenas now old new h on r it leads =
         rules = p.rules;
         leads = all;
         good = it.good;
-        is = comes-to v q.names m.mode new (run_of (later m store arenas now) (loaded_as m p.terms program q)) now it.comes (it.spent (running-in m.now on)) it.at;
+        is = comes-to v q.names m.mode new (run_of (later m store arenas now) (loaded_as m p.terms program q)) now it.comes r.view (it.spent (running-in m.now on)) it.at;
       };
     }
 
@@ -125,13 +141,12 @@ cut-off : (v : View) (program : List PredTree) (q : QueryTree) (events more : Li
     IsAtTick v (program ++ q.helpers) q.names d → StandsBefore v program q (events ++ more) Tick
 cut-off v program q events more c d leads then at = spent-run v program q (events ++ more) d (leads-on v (program ++ q.helpers) q.names events more (start q) c d leads then) at
 
-steps-used : (mode : Mode) (b : Budget) → mode ≡ Mode.Top → HasNone mode b → AreStepsUsed b
-steps-used Mode.Top b top none = none
-steps-used (Mode.Inner rest) b top none = absurd (cc)
-
-work-used : (mode : Mode) (b : Budget) → IsInner mode → HasNone mode b → IsWorkUsed b
-work-used Mode.Top b inner none = absurd inner
-work-used (Mode.Inner rest) b inner none = none
+-- it is about to tell this note
+stands-before : (v : View) (program : List PredTree) (q : QueryTree) (events more : List (Emitted Solution)) (c d : Config) (n : Note) (mode : Mode) → IsWork mode n → Leads v (program ++ q.helpers) q.names events (start q) c → Leads v (program ++ q.helpers) q.names more c d →
+    IsAtNote v (program ++ q.helpers) q.names n d → StandsBefore v program q (events ++ more) n
+stands-before v program q events more c d Tick mode is leads then at = cut-off v program q events more c d leads then at
+stands-before v program q events more c d (Load k) mode is leads then at = λ n run r. load-prefix v program q (events ++ more) d k n run (leads-on v (program ++ q.helpers) q.names events more (start q) c d leads then) at r
+stands-before v program q events more c d (Out text) mode is leads then at = absurd is
 
 -- of a propagation that is cut short, by what happens
 cut-short : (now : Now) (h : Happening) (k : ℕ) → Lasts h now → AreCutShort now k → AreCutOff h k
@@ -171,23 +186,24 @@ comes-behind v m program q events store arenas now old new (Happening.Raised bal
   runs-on v m program q events it.notes store arenas now old new (Happening.Raised ball) on r it it.is.0,
 )
 comes-behind v m program q events store arenas now old new Happening.StepsSpent on r it lasts =
-    let spent : (m.mode ≡ Mode.Top) × HasNone m.mode new = subst (IsSpent m.mode new) lasts (it.spent (running-in m.now on)) in (
+    let spent : (m.mode ≡ Mode.Top) × AreStepsUsed new = subst (IsSpent m.mode new) lasts (it.spent (running-in m.now on)) in (
       record {
         next = cut-off v program q events it.notes r.place.config it.comes r.place.leads it.is.0 it.is.1;
         runs = runs-on v m program q events it.notes store arenas now old new Happening.StepsSpent on r it it.is.0;
       },
       spent.0,
-      steps-used m.mode new spent.0 spent.1,
+      spent.1,
     )
 comes-behind v m program q events store arenas now old new Happening.WorkSpent on r it lasts =
-    let spent : IsInner m.mode × HasNone m.mode new = subst (IsSpent m.mode new) lasts (it.spent (running-in m.now on)) in (
-      Tick,
-      spent.0,
+    let spent : IsWorkUsed new = subst (IsSpent m.mode new) lasts (it.spent (running-in m.now on)) in
+    let work : IsWork m.mode it.is.1.0 = work-of v m.mode it.is.1.0 r.view it.is.1.1 in (
+      it.is.1.0,
+      work,
       record {
-        next = cut-off v program q events it.notes r.place.config it.comes r.place.leads it.is.0 it.is.1;
+        next = stands-before v program q events it.notes r.place.config it.comes it.is.1.0 m.mode work r.place.leads it.is.0 it.is.1.2;
         runs = runs-on v m program q events it.notes store arenas now old new Happening.WorkSpent on r it it.is.0;
       },
-      work-used m.mode new spent.0 spent.1,
+      spent,
     )
 comes-behind v m program q events store arenas now old new Happening.Memory on r it lasts = runs-on v m program q events it.notes store arenas now old new Happening.Memory on r it it.is
 
@@ -200,6 +216,7 @@ told-by v m program q events store arenas now old new h on r it lasts =
 
 done-there : (now : Now) → end_in now ≡ Some Happening.Done → now ≡ Now.Ended RunEnd.Done
 done-there (Now.Going p) ended = absurd cc
+done-there (Now.Settling it) ended = absurd cc
 done-there (Now.Telling told) ended = absurd cc
 done-there Now.Failing ended = absurd cc
 done-there (Now.Raising ball) ended = absurd cc
@@ -211,6 +228,7 @@ done-there (Now.Ended RunEnd.Memory) ended = absurd cc
 
 raised-there : (now : Now) (ball : Tree) → end_in now ≡ Some (Happening.Raised ball) → now ≡ Now.Ended (RunEnd.Raised ball)
 raised-there (Now.Going p) ball ended = absurd cc
+raised-there (Now.Settling it) ball ended = absurd cc
 raised-there (Now.Telling told) ball ended = absurd cc
 raised-there Now.Failing ball ended = absurd cc
 raised-there (Now.Raising other) ball ended = absurd cc
@@ -249,6 +267,7 @@ names-below n (x ∷ names) below = (below x (contains-first x names), names-bel
 stands-there : {M : Type 0} (v : View) (names : List NameSlot) (mode : Mode) (w : World M) (now : Now) (c : Config) → Stands w now c → HasComeTo v names mode w now c
 stands-there v names mode w (Now.Going p) c stands = stands
 stands-there v names mode w (Now.Telling told) c stands = stands
+stands-there v names mode w (Now.Settling it) c stands = stands
 stands-there v names mode w Now.Failing c stands = stands
 stands-there v names mode w (Now.Raising ball) c stands = stands
 stands-there v names mode w (Now.Ended e) c stands = no-end w e c.now (HasComeTo v names mode w (Now.Ended e) c) stands.runs

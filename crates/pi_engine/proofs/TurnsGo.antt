@@ -25,8 +25,9 @@ use Rattle.pi_engine_stands.specs.Goes.{counted, IsAt, Goes, IsSpent, TicksOn, I
 use Rattle.pi_meaning.specs.Machine.Leads.{Leads}
 use Rattle.pi_meaning.specs.Machine.Next.{Tells, some_ticks}
 use Rattle.pi_meaning.specs.Machine.Shape.{IsGood}
-use Rattle.pi_engine_stands.specs.Stands.{World, GoingIs, NowIs, going_now, telling_now, failing_now, raising_now, Stands, StackBelow, settling_now}
+use Rattle.pi_engine_stands.specs.Stands.{World, GoingIs, NowIs, going_now, telling_now, failing_now, raising_now, Stands, StackBelow, settling_now, due_now}
 use Rattle.pi_meaning.specs.Machine.Step.{Outcome, silently, with_tick, quietly, deeper, writing, answering, ending, fail_step, raise_step, step, loading}
+use Rattle.pi_engine.specs.Spends.{Spends}
 use Rattle.pi_engine.specs.Turns.{AreCutShort, Counted, StepIs, StepStops, IsRunning}
 use Rattle.pi_engine.specs.Happens.{AreTicksAndLoads, sum_of_loads}
 use Rattle.pi_engine.proofs.CountLemmas.{count-some}
@@ -82,6 +83,7 @@ comes-to-unspent after mode b now (ending e) ended = ended-unspent mode b now e 
 -- no propagation is cut short
 none-short : (now : Now) → AreCutShort now 0
 none-short (Now.Going p) = refl
+none-short (Now.Settling it) = refl
 none-short (Now.Telling told) = refl
 none-short Now.Failing = refl
 none-short (Now.Raising ball) = refl
@@ -133,10 +135,11 @@ answer-is v names mode b after c a it = record { notes = []; counts = nothing-co
 telling-is : {M : Type 0} (w : World M) (x : NowData) (now : Now) (told : Box Telling Global) → now ≡ Now.Telling told → NowIs w now x →
     (gs : GoalTrees) × (e : Places) × (k : List Frame) × (x ≡ telling told.value.text gs e w.store.now.state k) × GoingIs w told.value.point gs e k
 telling-is w x now told same (going_now is) = absurd cc
-telling-is w x now told same (settling_now is none) = absurd cc
+telling-is w x now told same (settling_now is rests none) = absurd cc
 telling-is w x now told same (telling_now {told = other} {gs = gs} {e = e} {k = k} is) =
     let it : other ≡ told = cc in
     (gs, e, k, ap (λ t. telling t.value.text gs e w.store.now.state k) it, subst (λ t. GoingIs w t.value.point gs e k) it is)
+telling-is w x now told same (due_now is left due) = absurd cc
 telling-is w x now told same failing_now = absurd cc
 telling-is w x now told same raising_now = absurd cc
 
@@ -168,7 +171,8 @@ stops-there v names mode b w c good =
 -- what fails
 failing-is : {M : Type 0} (w : World M) (x : NowData) (now : Now) → now ≡ Now.Failing → NowIs w now x → x ≡ failed
 failing-is w x now same (going_now is) = absurd cc
-failing-is w x now same (settling_now is none) = absurd cc
+failing-is w x now same (settling_now is rests none) = absurd cc
+failing-is w x now same (due_now is left due) = absurd cc
 failing-is w x now same (telling_now is) = absurd cc
 failing-is w x now same failing_now = refl
 failing-is w x now same raising_now = absurd cc
@@ -187,7 +191,8 @@ fails-is w after v names mode b now c same is fails =
 -- what raises
 raising-is : {M : Type 0} (w : World M) (x : NowData) (now : Now) (ball : Tree) → now ≡ Now.Raising ball → NowIs w now x → x ≡ raising ball
 raising-is w x now ball same (going_now is) = absurd cc
-raising-is w x now ball same (settling_now is none) = absurd cc
+raising-is w x now ball same (settling_now is rests none) = absurd cc
+raising-is w x now ball same (due_now is left due) = absurd cc
 raising-is w x now ball same (telling_now is) = absurd cc
 raising-is w x now ball same failing_now = absurd cc
 raising-is w x now ball same raising_now = cc
@@ -206,7 +211,7 @@ raises-is w after v names mode b old now ball c same raised is raises =
 
 -- ---- steps in a row
 
-pub counted-on : (mode : Mode) (a b c : Budget) → Counts mode a b → Counts mode b c → counted mode a b + counted mode b c ≡ counted mode a c
+pub counted-on : (mode : Mode) (a b c : Budget) → Spends mode a b → Spends mode b c → counted mode a b + counted mode b c ≡ counted mode a c
 counted-on Mode.Top a b c first second = omega (arith, first.ticks, second.ticks)
 counted-on (Mode.Inner rest) a b c first second = omega (arith, first.goals, second.goals)
 
@@ -218,7 +223,7 @@ both-kinds (noted (Load n) ∷ front) back h k = both-kinds front back h k
 both-kinds (noted (Out text) ∷ front) back h k = absurd h
 both-kinds (answered x ∷ front) back h k = absurd h
 
-both-ticks : (front back : List (Emitted Solution)) → count_ticks (front ++ back) ≡ count_ticks front + count_ticks back
+pub both-ticks : (front back : List (Emitted Solution)) → count_ticks (front ++ back) ≡ count_ticks front + count_ticks back
 unfolding count_ticks
 both-ticks [] back = omega arith
 both-ticks (noted Tick ∷ front) back = ap suc (both-ticks front back) ∙ omega arith
@@ -236,13 +241,14 @@ both-loads (answered x ∷ front) back = both-loads front back
 
 pub none-while-running : (now : Now) (k : ℕ) → IsRunning now → AreCutShort now k → k ≡ 0
 none-while-running (Now.Going p) k running h = h
+none-while-running (Now.Settling it) k running h = h
 none-while-running (Now.Telling told) k running h = h
 none-while-running Now.Failing k running h = h
 none-while-running (Now.Raising ball) k running h = h
 none-while-running (Now.Ended e) k running h = absurd running
 
 -- what is counted in a run that went on, and then
-pub counted-then : (mode : Mode) (a b d : Budget) (now next : Now) (front back : List (Emitted Solution)) → Counts mode a b → Counts mode b d → IsRunning now → Counted mode a b now front → Counted mode b d next back →
+pub counted-then : (mode : Mode) (a b d : Budget) (now next : Now) (front back : List (Emitted Solution)) → Spends mode a b → Spends mode b d → IsRunning now → Counted mode a b now front → Counted mode b d next back →
     Counted mode a d next (front ++ back)
 counted-then mode a b d now next front back one two running x y =
     let ticks : count_ticks (front ++ back) ≡ count_ticks front + count_ticks back = both-ticks front back in

@@ -4,7 +4,7 @@ use Rattle.std.specs.Prelude.{◌≡◌, ◌⊎◌, ◌≤◌, ℕ, ◌+◌, Lis
 use Rattle.pi_traces.specs.Trace.{End, Done, Note, Tick, Load, Out, Emitted, noted, answered, count_ticks}
 use Rattle.pi_traces.specs.Depth.{Cut, Spent, with_events}
 use Rattle.pi_meaning.specs.Shared.View.{View}
-use Rattle.pi_meaning.specs.CoreMeaning.Instances.{no_later, whole}
+use Rattle.pi_meaning.specs.CoreMeaning.Instances.{built_later, whole}
 use Rattle.pi_meaning.specs.CoreMeaning.Run.{Solution, IsRunUnder}
 use Rattle.pi_core.specs.CoreTree.{PredTree, QueryTree}
 use Rattle.pi_meaning.specs.declared.happening.Budget.{Budget}
@@ -53,9 +53,9 @@ pub record Adds (mode : Mode) (old new : Budget) (happening : Happening) (notes 
 
 -- these events are all that stands before a Tick; each run that is cut behind them goes on with this load
 abbrev pub StandsBefore : View → List PredTree → QueryTree → List (Emitted Solution) → Note → Type 0
-StandsBefore v program q events Tick = IsRunUnder (whole v no_later (program ++ q.helpers)) program q (count_ticks events) (record { events = events; stop = Spent })
+StandsBefore v program q events Tick = IsRunUnder (whole v built_later (program ++ q.helpers)) program q (count_ticks events) (record { events = events; stop = Spent })
 StandsBefore v program q events (Load k) =
-    (n : ℕ) (run : Cut Solution) → IsRunUnder (whole v no_later (program ++ q.helpers)) program q (count_ticks events + n) run → (rest : Cut Solution) × (run ≡ with_events (events ++ noted (Load k) ∷ []) rest)
+    (n : ℕ) (run : Cut Solution) → IsRunUnder (whole v built_later (program ++ q.helpers)) program q (count_ticks events + n) run → (rest : Cut Solution) × (run ≡ with_events (events ++ noted (Load k) ∷ []) rest)
 StandsBefore v program q events (Out text) = ⊥
 
 -- the run stops in front of a note for which the budget has no room

@@ -4,7 +4,7 @@ use Rattle.pi_terms.specs.Tree.{Tree}
 use Rattle.pi_traces.specs.Trace.{End, Done, Emitted, count_ticks}
 use Rattle.pi_traces.specs.Depth.{Cut, Ended, with_events}
 use Rattle.pi_meaning.specs.Shared.View.{View}
-use Rattle.pi_meaning.specs.CoreMeaning.Instances.{no_later, whole}
+use Rattle.pi_meaning.specs.CoreMeaning.Instances.{built_later, whole}
 use Rattle.pi_meaning.specs.CoreMeaning.Run.{Solution, IsRunUnder}
 use Rattle.pi_core.specs.CoreTree.{PredTree, QueryTree}
 use Rattle.pi_meaning.specs.declared.happening.Happening.{Happening}
@@ -14,7 +14,7 @@ use Rattle.pi_engine.specs.Inside.{IsPlaced}
 
 -- these events begin each run of the query that is cut behind them
 abbrev pub BeginRuns : View → List PredTree → QueryTree → List (Emitted Solution) → Type 0
-BeginRuns v program q events = (n : ℕ) (run : Cut Solution) → IsRunUnder (whole v no_later (program ++ q.helpers)) program q (count_ticks events + n) run → (rest : Cut Solution) × (run ≡ with_events events rest)
+BeginRuns v program q events = (n : ℕ) (run : Cut Solution) → IsRunUnder (whole v built_later (program ++ q.helpers)) program q (count_ticks events + n) run → (rest : Cut Solution) × (run ≡ with_events events rest)
 
 -- Under a view, a machine's run of a query of a program has come so far: these are its events, with which each run of the query
 -- begins; and what the machine has inside is at the place behind them, from which it goes on.
@@ -25,7 +25,7 @@ pub record RunsTo {M : Type 0} (v : View) (m : MachineView M) (program : List Pr
 
 -- these events are the whole run, cut before whichever Tick comes later, and this is its end
 abbrev pub EndsWith : View → List PredTree → QueryTree → List (Emitted Solution) → End → Type 0
-EndsWith v program q events e = (n : ℕ) → count_ticks events ≤ n → IsRunUnder (whole v no_later (program ++ q.helpers)) program q n (record { events = events; stop = Ended e })
+EndsWith v program q events e = (n : ℕ) → count_ticks events ≤ n → IsRunUnder (whole v built_later (program ++ q.helpers)) program q n (record { events = events; stop = Ended e })
 
 -- ---- laws
 

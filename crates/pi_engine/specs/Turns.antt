@@ -1,5 +1,6 @@
 -- What a step of the machine's code does, and what a call of `next` comes to.
-use Rattle.std.specs.Prelude.{◌≡◌, ◌⊎◌, ◌≤◌, ℕ, ◌+◌, List, [], ◌∷◌, ◌++◌, ⊤}
+use Rattle.std.specs.Prelude.{◌≡◌, ◌⊎◌, ◌≤◌, ℕ, ◌+◌, List, [], ◌∷◌, ◌++◌, Box, ⊤}
+use Rattle.std.specs.Global.{Global}
 use Rattle.pi_core.specs.CoreTree.{PredTree}
 use Rattle.pi_meaning.specs.Machine.Leads.{Leads, IsAtTick, IsAtEnd}
 use Rattle.pi_engine.specs.Happens.{AreTicksAndLoads, sum_of_loads}
@@ -16,9 +17,14 @@ use Rattle.pi_engine_arenas.specs.declared.run.Run.{Run}
 use Rattle.pi_engine.specs.declared.turns.Outcome.{Outcome}
 use Rattle.pi_meaning.specs.Machine.Configuration.{Config}
 use Rattle.pi_meaning.specs.Machine.Shape.{IsGood}
-use Rattle.pi_engine_stands.specs.Stands.{World}
+use Rattle.pi_engine_stands.specs.Stands.{World, Stands}
+use Rattle.pi_meaning.specs.Machine.Built.{AreOfRules}
 use Rattle.pi_meaning.specs.Machine.Next.{Tells}
-use Rattle.pi_engine_stands.specs.Goes.{counted, IsAt, Goes, IsSpent, Counting}
+use Rattle.pi_engine_stands.specs.Goes.{counted, IsAtWork, IsAt, Goes, IsSpent, Counting, counting}
+use Rattle.pi_engine_stands.specs.Changes.{Change}
+use Rattle.pi_engine_settle.specs.declared.propagating.Settled.{Settled}
+use Rattle.pi_engine_arenas.specs.declared.frames.Point.{Point}
+use Rattle.pi_engine_arenas.specs.declared.run.Settling.{Settling}
 
 -- ---- one step
 
@@ -56,6 +62,23 @@ pub record StepIs {M : Type 0} (v : View) (names : List NameSlot) (mode : Mode) 
 abbrev pub StepStops : {M : Type 0} → View → List NameSlot → Counting → World M → Config → Type 0
 StepStops v names b before c = StepIs v names b.mode b.old b.new before (Now.Ended RunEnd.Memory) c Outcome.More
 
+-- ---- a state that is settled
+
+-- what is next after a propagation, where goals go on at a point
+abbrev pub after_settling : Settled → Point → Now
+after_settling Settled.Left p = Now.Going p
+after_settling Settled.Lost p = Now.Failing
+after_settling Settled.Spent p = Now.Ended RunEnd.WorkSpent
+
+-- what was noted to be due is run
+abbrev pub SettlesDue : {M : Type 0} → Box Settling Global → Budget → Budget → Change M → Type 0
+SettlesDue it old new made =
+    (v : View) (names : List NameSlot) (mode : Mode) (c : Config) → Stands made.before (Now.Settling it) c → IsGood c → AreOfRules made.before.loaded.preds → StepIs v names mode old new made.after made.now c Outcome.More
+
+-- the same where memory is wanted
+abbrev pub SettlingStops : {M : Type 0} → Budget → Budget → Change M → Type 0
+SettlingStops old new made = (v : View) (names : List NameSlot) (mode : Mode) (c : Config) → IsGood c → StepStops v names (counting mode old new) made.before c
+
 -- a run that has ended for want of memory, and else is as it was
 abbrev pub stopped_run : {S M : Type 0} → Run S M → Run S M
 stopped_run run = record run { now = Now.Ended RunEnd.Memory }
@@ -75,7 +98,7 @@ HappensNext v preds names notes (Happening.NeedPlan c) before after = ⊥
 HappensNext v preds names notes Happening.Done before after = Leads v preds names notes before after × IsAtEnd v preds names Done after
 HappensNext v preds names notes (Happening.Raised ball) before after = Leads v preds names notes before after × IsAtEnd v preds names (Raise ball) after
 HappensNext v preds names notes Happening.StepsSpent before after = Leads v preds names notes before after × IsAtTick v preds names after
-HappensNext v preds names notes Happening.WorkSpent before after = Leads v preds names notes before after × IsAtTick v preds names after
+HappensNext v preds names notes Happening.WorkSpent before after = Leads v preds names notes before after × IsAtWork v preds names after
 HappensNext v preds names notes Happening.Memory before after = Leads v preds names notes before after
 
 pub record NextComes {M : Type 0} (v : View) (names : List NameSlot) (mode : Mode) (old new : Budget) (after : World M) (before now : Now) (c : Config) (happening : Happening) : Type 0 where

@@ -8,16 +8,17 @@ ghost use Rattle.pi_meaning.specs.CoreMeaning.Sound.{IsSoundQuery};
 ghost use Rattle.pi_meaning.specs.CoreMeaning.Defined.{QueryCallsDefined, NamesAreFree};
 ghost use Rattle.pi_traces.specs.Trace.{Emitted};
 ghost use Rattle.pi_meaning.specs.Shared.View.{View};
-ghost use Rattle.pi_meaning.specs.Machine.Budget.{Counts, IsWithin};
+ghost use Rattle.pi_meaning.specs.Machine.Budget.{IsWithin};
 ghost use Rattle.pi_meaning.specs.Machine.Built.{AreOfRules};
 ghost use Rattle.pi_meaning.specs.declared.happening.Happening.{Happening};
 ghost use Rattle.pi_engine.specs.Seen.{machine_view, store_of, mode_of, kept_by, end_of, HasEnded, GoesOn, Fits};
 ghost use Rattle.pi_engine.specs.Runs.{RunsTo};
+ghost use Rattle.pi_engine.specs.Spends.{Spends};
 ghost use Rattle.pi_engine.specs.Happens.{Happens, IsBuiltSoFar, IsRepeated, lasting};
 
 use crate::begin::begin;
 use crate::turns::next_happening;
-use pi_constraints::StateStore;
+use pi_constraints::{StateStore, StoredDomains};
 use pi_core::{CoreProgram, CoreQuery, NameSlots};
 use pi_engine_arenas::Run;
 use pi_engine_code::Code;
@@ -97,10 +98,10 @@ impl<'p, S: StateStore> Machine<'p, S> {
     }
 }
 
-impl<S: StateStore> Machine<'_, S> {
+impl<S: StoredDomains> Machine<'_, S> {
     /// What comes next: an answer, a text that is written, or the end, which is answered for good.
     pub fn next(&mut self, budget: &mut Budget) -> Happening
-        ensures counts { Counts (mode_of (machine_view S.seen S.order self.old)) budget.old budget.new }
+        ensures spends { Spends (mode_of (machine_view S.seen S.order self.old)) budget.old budget.new }
         ensures within { IsWithin budget.old → IsWithin budget.new }
         ensures mode { mode_of (machine_view S.seen S.order self.new) ≡ mode_of (machine_view S.seen S.order self.old) }
         ensures steps { GoesOn (machine_view S.seen S.order self.old) →
@@ -121,7 +122,9 @@ impl<S: StateStore> Machine<'_, S> {
             budget,
         )
     }
+}
 
+impl<S: StateStore> Machine<'_, S> {
     /// How much the run keeps beside its store.
     pub fn kept(&self) -> Kept
         ensures { result ≡ kept_by (machine_view S.seen S.order self.now) }

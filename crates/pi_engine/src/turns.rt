@@ -6,21 +6,23 @@ ghost use Rattle.pi_meaning.specs.Shared.View.{View};
 ghost use Rattle.pi_meaning.specs.declared.happening.Budget.{Budget};
 ghost use Rattle.pi_meaning.specs.declared.happening.Mode.{Mode};
 ghost use Rattle.pi_engine_arenas.specs.declared.run.End.{End};
-ghost use Rattle.pi_meaning.specs.Machine.Budget.{Counts};
 ghost use Rattle.pi_engine_arenas.specs.Frames.{frame_at};
 ghost use Rattle.pi_meaning.specs.Machine.Configuration.{Config};
 ghost use Rattle.pi_engine_stands.specs.Answers.{AreNames};
 ghost use Rattle.pi_engine_stands.specs.Views.{Fits};
 ghost use Rattle.pi_engine_stands.specs.Makes.{GoesFrom};
 ghost use Rattle.pi_engine_stands.specs.Goes.{IsIn, PointIsDone, counting};
+ghost use Rattle.pi_engine_arenas.specs.declared.run.Settling.{Settling};
 ghost use Rattle.pi_engine.specs.Happens.{IsBuiltSoFar};
-ghost use Rattle.pi_engine.specs.Turns.{StepIs, StepStops, stopped_run, NextComes, IsRunning, RunsAfter, IsAnswered, RepeatsEnd, Lasts, IsRaised, with_budget};
+ghost use Rattle.pi_engine.specs.Spends.{Spends};
+ghost use Rattle.pi_engine.specs.Turns.{StepIs, StepStops, after_settling, SettlesDue, SettlingStops, stopped_run, NextComes, IsRunning, RunsAfter, IsAnswered, RepeatsEnd, Lasts, IsRaised, with_budget};
 ghost use Rattle.pi_engine_stands.specs.Changes.{Changes, ChangesBy};
 
-use pi_constraints::StateStore;
+use pi_constraints::{StateStore, StoredDomains};
 use pi_core::{Answer, NameSlot};
-use pi_engine_arenas::{End, Now, Point, Run, Telling};
+use pi_engine_arenas::{End, Now, Point, Run, Settling, Telling};
 use pi_engine_code::Code;
+use pi_engine_settle::{Settled, settle};
 use pi_engine_steps::{answer, answer_level, fail, run_goal, unwind};
 use pi_meaning::{Budget, Happening, Mode};
 use pi_terms::Text;
@@ -36,14 +38,14 @@ pub enum Outcome {
 }
 
 /// What comes next in a run: an answer, a text, or the end.
-pub fn next_happening<S: StateStore>(
+pub fn next_happening<S: StoredDomains>(
     code: &Code<'_>,
     mode: Mode,
     names: &[NameSlot],
     run: &mut Run<S>,
     budget: &mut Budget,
 ) -> Happening
-    ensures counts { Counts mode budget.old budget.new }
+    ensures spends { Spends mode budget.old budget.new }
     ensures comes { ChangesBy S.seen S.order code.now run.old run.new (λ made. AreNames made.before.loaded.query_slots names.now →
         (v : View) → Fits mode v → (c : Config) → IsIn v names.now made.before run.old.now c →
         NextComes v names.now mode budget.old budget.new made.after run.old.now made.now c result) }
@@ -90,14 +92,14 @@ fn memory_wanted<S: StateStore>(run: &mut Run<S>) -> Happening
 
 /// One step of a run. Where it has ended, nothing.
 #[inline(always)]
-fn step<S: StateStore>(
+fn step<S: StoredDomains>(
     code: &Code<'_>,
     mode: Mode,
     names: &[NameSlot],
     run: &mut Run<S>,
     budget: &mut Budget,
 ) -> Result<Outcome, AllocError>
-    ensures counts { Counts mode budget.old budget.new }
+    ensures spends { Spends mode budget.old budget.new }
     ensures answered { IfOk result (λ outcome. RunsAfter outcome run.new.now) }
     ensures is { IfOk result (λ outcome. IsRunning run.old.now → ChangesBy S.seen S.order code.now run.old run.new (λ made.
         AreNames made.before.loaded.query_slots names.now → (v : View) → Fits mode v → (c : Config) →
@@ -130,8 +132,43 @@ fn step<S: StateStore>(
             unwind(code, run)?;
             Ok(Outcome::More)
         }
+        Now::Settling(_) => {
+            settle_due(run, budget)?;
+            Ok(Outcome::More)
+        }
         Now::Telling(_) => Ok(tell(run)),
         Now::Ended(_) => Ok(Outcome::More),
+    }
+}
+
+/// Runs the constraints that are due, and then goes on where the point is that was noted with them; where a domain is empty, with the
+/// newest entry. Where the work is spent before a constraint that is due, the run ends.
+#[inline(never)]
+fn settle_due<S: StoredDomains>(run: &mut Run<S>, budget: &mut Budget) -> Result<(), AllocError>
+    ensures spends { (mode : Mode) → Spends mode budget.old budget.new }
+    ensures settles { IfOk result (λ _. (it : Box Settling Global) → run.old.now ≡ Now.Settling it →
+        Changes S.seen S.order run.old run.new (SettlesDue it budget.old budget.new)) }
+    ensures stops { IfErr result (λ _. Changes S.seen S.order run.old run.new (SettlingStops budget.old budget.new)) }
+{
+    let now = mem::replace(&mut run.now, Now::Failing);
+    let Some(settling) = now.into_settling() else {
+        return Ok(());
+    };
+    let Settling { due, point } = Box::into_inner(settling);
+    let limit = budget.limit;
+    let settled = settle(run.alloc, &mut run.store, &due, &mut budget.work, limit)?;
+    run.now = next_now(settled, point);
+    Ok(())
+}
+
+/// What is next after a propagation, where goals go on at a point.
+fn next_now(settled: Settled, point: Point) -> Now
+    ensures { result ≡ after_settling settled point }
+{
+    match settled {
+        Settled::Left => Now::Going(point),
+        Settled::Lost => Now::Failing,
+        Settled::Spent => Now::Ended(End::WorkSpent),
     }
 }
 

@@ -21,7 +21,7 @@ use Rattle.pi_meaning.specs.Shared.Drain.{drained}
 use Rattle.pi_meaning.specs.Shared.Level.{Level, lowest, over, Calls, Applied, Point, level_of, calls_at}
 use Rattle.pi_meaning.specs.CoreMeaning.Builtins.{Builtins, predicate_by, function_by}
 use Rattle.pi_meaning.specs.CoreMeaning.Facts.{fact_terms, unified_with, facts}
-use Rattle.pi_meaning.specs.CoreMeaning.Instances.{no_later, whole}
+use Rattle.pi_meaning.specs.CoreMeaning.Instances.{built_later, whole}
 use Rattle.pi_meaning.specs.CoreMeaning.Meaning.{Action, in_state, with_slot, after_arguments, after_term, draining, strictly, calling, applying, ticking, slot_value, copyable, with_list, collecting, counting, catching, meaning, meaning_of_all, meaning_of_any}
 use Rattle.pi_meaning.specs.CoreMeaning.Rules.{guarded, chosen_rule, rule_before, rule_by, rules_by, rules, body_or_agent, pred_run, value_at, value_run, function_run, entered, call_run, application_run, calls_of, quiet_level, level_at}
 use Rattle.pi_meaning.specs.CoreMeaning.Run.{Solution, solution, told, answered_with, query_start, query_trace, IsRun}
@@ -273,6 +273,6 @@ trace-safe b names program q depth =
 
 pub never-aborts : (program : List PredTree) (q : QueryTree) (n : ℕ) (run : Cut Solution) (ball : Tree) → IsRun program q [] n run → run.stop ≡ Ended (Abort ball) → ⊥
 never-aborts program q n run ball is aborts =
-    let b : Builtins = whole (query_view []) no_later (program ++ q.helpers) in
+    let b : Builtins = whole (query_view []) built_later (program ++ q.helpers) in
     let stops : (cut n (query_trace b program q is.depth)).stop ≡ Ended (Abort ball) = sym (ap (λ (r : Cut Solution). r.stop) is.is_cut) ∙ aborts in
     no-abort-cut Anything n (query_trace b program q is.depth) ball (trace-safe b (whole-safe (query_view []) (program ++ q.helpers)) program q is.depth) stops

@@ -1,5 +1,6 @@
--- Calls by name, of built-ins and of terms by `call`, don't end in an exception that no `catch` catches, where what they lead to doesn't and no later stage of the language is there.
+-- Calls by name, of built-ins and of terms by `call`, don't end in an exception that no `catch` catches, where what they lead to doesn't, with what is built of later stages of the language.
 use Rattle.std.proofs.Common.{ℕ, zero, suc, Bool, List, [], Option, Some, None}
+use Rattle.std.specs.Prelude.{option_map, unwrap_or}
 use Rattle.pi_terms.specs.Tree.{Tree, Trees, no_trees, tree, tree_count}
 use Rattle.pi_constraints.specs.State.{State}
 use Rattle.pi_effects.specs.Effect.{Effect, Succeeds, Fails, Writes, Raises, FunctionEffect, Gives, Refuses}
@@ -7,6 +8,8 @@ use Rattle.pi_core.specs.CoreTree.{PredTree}
 use Rattle.pi_traces.specs.Trace.{Trace, end, Raise, Deep, Tick, note, done, then}
 use Rattle.pi_meaning.specs.Shared.View.{View}
 use Rattle.pi_meaning.specs.Shared.Within.{Within, a_query, a_body, is_body, resource_left}
+use Rattle.pi_settling.specs.DomainValues.{domain_function}
+use Rattle.pi_settling.specs.Goals.{constraint_effect}
 use Rattle.pi_settling.specs.Settled.{loaded}
 use Rattle.pi_settling.specs.Settle.{answer_with}
 use Rattle.pi_meaning.specs.Shared.Settle.{settlement, settled, settled_from}
@@ -16,7 +19,7 @@ use Rattle.pi_meaning.specs.Shared.Given.{Setting}
 use Rattle.pi_meaning.specs.Shared.Calls.{built_in, given_later, predicate_given, predicate_called, function_later, function_given, Called, unknown_name, with_planner, known_called, call_goal, catch_called, again_called, term_called, called_at_level, called_below, first_called}
 use Rattle.pi_meaning.specs.Shared.Level.{Level, lowest, over, Calls, Applied, calls_at, or_called, or_applied}
 use Rattle.pi_meaning.specs.CoreMeaning.Builtins.{Builtins, predicate_by, function_by}
-use Rattle.pi_meaning.specs.CoreMeaning.Instances.{no_later, whole, core_setting, predicate_or_call}
+use Rattle.pi_meaning.specs.CoreMeaning.Instances.{built_later, whole, core_setting, predicate_or_call}
 use Rattle.pi_top.proofs.NoAborts.{NoAbort, Anything, NoneAborts, no-then, no-caught, no-cond, none-cond, none-or, none-map, none-some, none-none}
 
 -- ---- levels
@@ -89,7 +92,7 @@ no-resource (a_body n) s = (tt, tt)
 -- ---- names
 
 abbrev pub setting : View → List PredTree → Setting
-setting v preds = core_setting v no_later preds
+setting v preds = core_setting v built_later preds
 
 no-raised : (ball : Tree) → NoAbort {A = State} Anything (end (Raise ball))
 unfolding NoAbort
@@ -107,17 +110,30 @@ no-tick : (t : Trace State) → NoAbort Anything t → NoAbort Anything (note Ti
 unfolding NoAbort
 no-tick t a = a
 
+-- what is built of later stages
+no-or_else : {A : Type 0} (o : Option (Trace A)) (t : Trace A) → NoneAborts Anything o → NoAbort Anything t → NoAbort Anything (unwrap_or o t)
+unfolding NoneAborts
+no-or_else None t a b = b
+no-or_else (Some u) t a b = a
+
+no-built_predicate : (v : View) (l : Level) (name : List ℕ) (ts : Trees) (s : State) → NoAbort Anything (built_later.predicate v l name ts s)
+no-built_predicate v l name ts s =
+    no-or_else (option_map (settled_effect v s) (constraint_effect name ts s)) (unknown_name name (tree_count ts)) (none-map Anything _ (settled_effect v s) (no-settled_effect v s)) (no-unknown name (tree_count ts))
+
+no-built_function : (name : List ℕ) (ts : Trees) (s : State) → NoAbort Anything (built_later.function name ts s)
+no-built_function name ts s = no-or_else (option_map function_trace (domain_function name ts s)) done (none-map Anything _ function_trace no-function) (no-done Anything)
+
 no-given : (v : View) (preds : List PredTree) (l : Level) (name : List ℕ) (ts : Trees) (s : State) → NoneAborts Anything (predicate_given (setting v preds) l name ts s)
 unfolding predicate_given
 no-given v preds l name ts s =
-    none-or Anything (built_in (setting v preds) name ts s) (given_later (setting v preds) l name ts s) (none-map Anything _ (settled_effect v s) (no-settled_effect v s)) (none-cond Anything _ (Some (unknown_name name (tree_count ts))) None (none-some Anything (unknown_name name (tree_count ts)) (no-unknown name (tree_count ts))) (none-none Anything))
+    none-or Anything (built_in (setting v preds) name ts s) (given_later (setting v preds) l name ts s) (none-map Anything _ (settled_effect v s) (no-settled_effect v s)) (none-cond Anything _ (Some (built_later.predicate v l name ts s)) None (none-some Anything (built_later.predicate v l name ts s) (no-built_predicate v l name ts s)) (none-none Anything))
 
 no-function_given : (v : View) (preds : List PredTree) (name : List ℕ) (ts : Trees) (s : State) → NoneAborts Anything (function_given (setting v preds) name ts s)
 unfolding function_given
 no-function_given v preds name ts s =
     none-or Anything _ (function_later (setting v preds) name ts s) (none-map Anything _ function_trace no-function)
     (none-cond Anything _ (Some (resource_left v.within s)) _ (none-some Anything (resource_left v.within s) (no-resource v.within s))
-    (none-cond Anything _ (Some done) None (none-some Anything done (no-done Anything)) (none-none Anything)))
+    (none-cond Anything _ (Some (built_later.function name ts s)) None (none-some Anything (built_later.function name ts s) (no-built_function name ts s)) (none-none Anything)))
 
 no-or_called : (o : Option (Trace State)) (l : Level) (name : List ℕ) (ts : Trees) (s : State) → IsSafe l → NoneAborts Anything o → NoAbort Anything (or_called o l name ts s)
 unfolding NoneAborts
@@ -192,7 +208,7 @@ pub record BuiltinsSafe (b : Builtins) : Type 0 where
   pub predicates : (l : Level) → IsSafe l → (name : List ℕ) (ts : Trees) (s : State) → NoAbort Anything (predicate_by b l name ts s)
   pub functions : (l : Level) → IsSafe l → (name : List ℕ) (ts : Trees) (s : State) → NoAbort Anything (function_by b l name ts s)
 
-pub whole-safe : (v : View) (preds : List PredTree) → BuiltinsSafe (whole v no_later preds)
+pub whole-safe : (v : View) (preds : List PredTree) → BuiltinsSafe (whole v built_later preds)
 whole-safe v preds = record {
   predicates = λ l safe name ts s. no-or_called (predicate_or_call (setting v preds) l name ts s) l name ts s safe
       (none-cond Anything _ (Some (first_called (setting v preds) l ts s)) (predicate_given (setting v preds) l name ts s) (none-some Anything (first_called (setting v preds) l ts s) (no-first_called v preds l ts s safe)) (no-given v preds l name ts s));

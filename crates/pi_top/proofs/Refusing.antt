@@ -8,8 +8,8 @@ use Rattle.pi_traces.specs.Trace.{Done, Raise, Emitted, noted, answered, count_t
 use Rattle.pi_traces.specs.Depth.{Cut, Stop, Ended, Spent}
 use Rattle.pi_meaning.specs.Shared.View.{query_view}
 use Rattle.pi_meaning.specs.OverNames.Telling.{Told}
-use Rattle.pi_meaning.specs.OverNames.Stages.{no_stages}
-use Rattle.pi_meaning.proofs.OverNames.GrowRules.{no-stages-add, names-runs-are-one}
+use Rattle.pi_meaning.specs.OverNames.Stages.{built_stages}
+use Rattle.pi_meaning.proofs.OverNames.GrowRules.{built-stages-add, names-runs-are-one}
 use Rattle.pi_top.specs.declared.runs.QueryRun.{QueryRun}
 use Rattle.pi_top.specs.declared.manner.Manner.{Manner}
 use Rattle.pi_top.specs.FaultLines.{of_program}
@@ -152,7 +152,7 @@ no-six status ending is left spent = left (is ∙ ap status_of spent)
 one-headline : (manner : Manner) (program : ProgramTree) (goal : ExpTree) (log : List LogEntry) (took others : Took) (status other : ℕ) (texts more : List (List ℕ)) → status ≢ 6 → other ≢ 6 →
     Headline manner program goal log took status texts → Headline manner program goal log others other more → AreSame took others status other texts more
 one-headline manner program goal log took others status other texts more left right a b =
-    let run : a.run ≡ b.run = names-runs-are-one (query_view log) no_stages no-stages-add program goal manner.steps a.run b.run (a.is_part.is_run no_stages (inr refl)) (b.is_part.is_run no_stages (inr refl)) in
+    let run : a.run ≡ b.run = names-runs-are-one (query_view log) built_stages built-stages-add program goal manner.steps a.run b.run (a.is_part.is_run built_stages (inr refl)) (b.is_part.is_run built_stages (inr refl)) in
     let begins : IsPrefix b.part a.run.events = rw (← run) at b.is_part.begins in
     let ends : Ends manner.answers b.part a.run b.ending = rw (← run) at b.ends in
     let part : a.part ≡ b.part =

@@ -17,8 +17,8 @@ use Rattle.pi_traces.specs.Trace.{Done, Raise, Emitted, count_ticks}
 use Rattle.pi_traces.specs.Depth.{Cut, Ended, Spent}
 use Rattle.pi_meaning.specs.Shared.View.{query_view}
 use Rattle.pi_meaning.specs.OverNames.Telling.{Told}
-use Rattle.pi_meaning.specs.OverNames.Stages.{no_stages}
-use Rattle.pi_meaning.proofs.OverNames.GrowRules.{no-stages-add, names-runs-are-one}
+use Rattle.pi_meaning.specs.OverNames.Stages.{built_stages}
+use Rattle.pi_meaning.proofs.OverNames.GrowRules.{built-stages-add, names-runs-are-one}
 use Rattle.pi_top.specs.declared.manner.Manner.{Manner}
 use Rattle.pi_top.specs.declared.runs.QueryRun.{QueryRun}
 use Rattle.pi_top.specs.Asking.{AsksOf, RefusesOf}
@@ -66,7 +66,7 @@ same-hands text first second a b = hands-bytes text first a ∙ sym (hands-bytes
 
 one-run : (program : ProgramTree) (goal : ExpTree) (log : List LogEntry) (steps : ℕ) (run other : Cut Told) (part its : List (Emitted Told)) → IsPart program goal log steps run part → IsPart program goal log steps other its → run ≡ other
 one-run program goal log steps run other part its a b =
-    names-runs-are-one (query_view log) no_stages no-stages-add program goal steps run other (a.is_run no_stages (inr refl)) (b.is_run no_stages (inr refl))
+    names-runs-are-one (query_view log) built_stages built-stages-add program goal steps run other (a.is_run built_stages (inr refl)) (b.is_run built_stages (inr refl))
 
 -- what two turns of one query have in common
 record AreSame (taken others : Took) (writes more : List SinkWrite) : Type 0 where

@@ -7,10 +7,11 @@ use Rattle.pi_outside.specs.Writes.{SinkWrite}
 use Rattle.pi_meaning.specs.declared.happening.Budget.{Budget}
 use Rattle.pi_meaning.specs.declared.happening.Happening.{Happening}
 use Rattle.pi_meaning.specs.declared.happening.Mode.{Mode}
-use Rattle.pi_meaning.specs.Machine.Budget.{Counts, IsWithin, IsWorkUsed}
+use Rattle.pi_meaning.specs.Machine.Budget.{IsWithin, IsWorkUsed}
 use Rattle.pi_engine_stands.specs.Goes.{counted}
 use Rattle.pi_engine.specs.Happens.{sum_of_loads, Adds}
 use Rattle.pi_engine.specs.Seen.{MachineView, mode_of}
+use Rattle.pi_engine.specs.Spends.{Spends}
 use Rattle.pi_top.specs.QueryEnd.{count_answers}
 use Rattle.pi_top.specs.QueryWords.{ToldQuery}
 use Rattle.pi_top.specs.Running.{print_solutions, IsSoFar, Called}
@@ -19,17 +20,14 @@ use Rattle.pi_top.proofs.EventLemmas.{ticks-append, loads-append, answers-behind
 
 -- ---- the budget
 
-same-goals : (mode : Mode) (b c : Budget) → Counts mode b c → mode ≡ Mode.Top → c.work.goals ≡ b.work.goals
-same-goals mode b c counts top = ap (λ (w : Work). w.goals) (counts.top top)
-
 -- what a machine says of its budget is all that is read of it
-pub called-of : {M : Type 0} (m n : MachineView M) (b c : Budget) → Counts (mode_of m) b c → (IsWithin b → IsWithin c) → mode_of n ≡ mode_of m → Called m n b c
-called-of m n b c counts within mode = record {
-  ticks = counts.ticks;
+pub called-of : {M : Type 0} (m n : MachineView M) (b c : Budget) → Spends (mode_of m) b c → (IsWithin b → IsWithin c) → mode_of n ≡ mode_of m → Called m n b c
+called-of m n b c spends within mode = record {
+  ticks = spends.ticks;
   rest = record {
-    bounds = let steps : c.steps ≡ b.steps = counts.steps in let limit : c.limit ≡ b.limit = counts.limit in ap (λ (s : ℕ). record { steps = s; work = c.limit }) steps ∙ ap (λ (w : ℕ). record { steps = b.steps; work = w }) limit;
-    goals = λ top. same-goals (mode_of m) b c counts top;
-    expansions = counts.expansions;
+    bounds = let steps : c.steps ≡ b.steps = spends.steps in let limit : c.limit ≡ b.limit = spends.limit in ap (λ (s : ℕ). record { steps = s; work = c.limit }) steps ∙ ap (λ (w : ℕ). record { steps = b.steps; work = w }) limit;
+    goals = spends.top;
+    expansions = spends.expansions;
   };
   within = within;
   mode = mode;

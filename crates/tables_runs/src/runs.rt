@@ -6,7 +6,9 @@ use crate::programs::program_of;
 use pi_engine::{Budget, Happening, Kept, Machine, Mode};
 use pi_region::Words;
 use pi_store::RawStore;
-use pi_types::{Answer, CorePreds, CoreProgram, CoreQuery, NameSlot, NameSlots, StateStore, Work};
+use pi_types::{
+    Answer, CorePreds, CoreProgram, CoreQuery, NameSlot, NameSlots, StoredDomains, Work,
+};
 use tables_cases::{Case, Problem, tell_domains};
 
 /// How many slots each query has.
@@ -62,7 +64,7 @@ fn names(case: &Case, count: u32) -> NameSlots {
 
 /// Runs a query on any store. This function alone owns a machine: it is generic, so that no proof goes through the parts of one
 /// kind of store.
-fn run<S: StateStore>(
+fn run<S: StoredDomains>(
     case: &Case,
     core: &CoreProgram,
     query: CoreQuery,
@@ -83,7 +85,7 @@ fn run<S: StateStore>(
 }
 
 /// Tells all that comes in a run up to its end. Where the end doesn't come for good, so it says.
-fn tell_all<S: StateStore>(
+fn tell_all<S: StoredDomains>(
     case: &Case,
     machine: &mut Machine<'_, S>,
     budget: &mut Budget,
@@ -102,7 +104,7 @@ fn tell_all<S: StateStore>(
 }
 
 /// Tells what comes next and the Ticks by then, and answers whether it is an end.
-fn tell_next<S: StateStore>(
+fn tell_next<S: StoredDomains>(
     case: &Case,
     machine: &mut Machine<'_, S>,
     budget: &mut Budget,

@@ -3,7 +3,7 @@ use Rattle.pi_engine_arenas.specs.declared.run.End.{End}
 use Rattle.pi_engine_arenas.specs.declared.run.Now.{Now}
 use Rattle.pi_engine_arenas.specs.Arenas.{view_of}
 use Rattle.pi_engine_stands.specs.Stands.{world}
-use Rattle.pi_meaning.proofs.Machine.BudgetLemmas.{counts_none, counts_then}
+use Rattle.pi_engine.proofs.SpendLemmas.{spends-none, spends-then}
 use Rattle.pi_engine.specs.Happens.{IsBuiltSoFar}
 use Rattle.pi_engine.specs.Turns.{StepIs, RunsAfter}
 use Rattle.pi_engine.proofs.NextTurns.{running-of, lasts-memory, built-ended, no-turns, one-turn, end-comes, memory-comes, answer-comes, told-comes}
@@ -13,7 +13,7 @@ pub loop-turn-init : goal.loop-turn-init
 loop-turn-init g c =
     let run = c.args.run.now in
     record {
-      counts = counts_none c.args.mode c.args.budget.now;
+      counts = spends-none c.args.mode c.args.budget.now;
       turns = λ l is_code are v fits d is. no-turns v c.args.names.now c.args.mode c.args.budget.now (world l (g.S.StateStore.seen run.store) g.S.StateStore.order (view_of run.arenas)) run.now d is;
       still = λ e ended. (refl, refl, refl);
     }
@@ -25,12 +25,12 @@ loop-turn-preserved g c =
     let next = c.step.new.run in
     let before = c.loop-turn.invariant in
     record {
-      counts = counts_then c.args.mode c.args.budget.now c.loop-turn.budget c.step.new.budget before.counts c.step.ensures.counts;
+      counts = spends-then c.args.mode c.args.budget.now c.loop-turn.budget c.step.new.budget before.counts c.step.ensures.spends;
       turns = λ l is_code are v fits d is.
           (let it = before.turns l is_code are v fits d is in
           one-turn v c.args.names.now c.args.mode c.args.budget.now c.loop-turn.budget c.step.new.budget
           (world l (g.S.StateStore.seen first.store) g.S.StateStore.order (view_of first.arenas)) (world l (g.S.StateStore.seen here.store) g.S.StateStore.order (view_of here.arenas))
-          (world l (g.S.StateStore.seen next.store) g.S.StateStore.order (view_of next.arenas)) first.now here.now next.now d refl refl before.counts c.step.ensures.counts (running-of here.now c.in_default.not-Ended) is it
+          (world l (g.S.StateStore.seen next.store) g.S.StateStore.order (view_of next.arenas)) first.now here.now next.now d refl refl before.counts c.step.ensures.spends (running-of here.now c.in_default.not-Ended) is it
           (λ at. subst (StepIs v c.args.names.now c.args.mode c.loop-turn.budget c.step.new.budget (world l (g.S.StateStore.seen next.store) g.S.StateStore.order (view_of next.arenas)) next.now it.goes.comes) c.in-More.is
           (c.in-Ok-step.ensures.is (running-of here.now c.in_default.not-Ended) l is_code are v fits it.goes.comes at)));
       still = λ e ended. absurd (c.in_default.not-Ended e (ap (λ r. r.now) (before.still e ended).0 ∙ ended));
@@ -53,12 +53,12 @@ returns-in-Answered g c =
     let next = c.step.new.run in
     let before = c.loop-turn.invariant in
     record {
-      counts = counts_then c.args.mode c.args.budget.now c.loop-turn.budget c.step.new.budget before.counts c.step.ensures.counts;
+      spends = spends-then c.args.mode c.args.budget.now c.loop-turn.budget c.step.new.budget before.counts c.step.ensures.spends;
       comes = λ l is_code are v fits d is.
           (let it = before.turns l is_code are v fits d is in
           answer-comes v c.args.names.now c.args.mode c.args.budget.now c.loop-turn.budget c.step.new.budget
           (world l (g.S.StateStore.seen first.store) g.S.StateStore.order (view_of first.arenas)) (world l (g.S.StateStore.seen here.store) g.S.StateStore.order (view_of here.arenas))
-          (world l (g.S.StateStore.seen next.store) g.S.StateStore.order (view_of next.arenas)) first.now here.now next.now d c.in-Answered.answer c.into_inner.result c.into_inner.ensures refl refl before.counts c.step.ensures.counts (running-of here.now c.in_default.not-Ended) is it
+          (world l (g.S.StateStore.seen next.store) g.S.StateStore.order (view_of next.arenas)) first.now here.now next.now d c.in-Answered.answer c.into_inner.result c.into_inner.ensures refl refl before.counts c.step.ensures.spends (running-of here.now c.in_default.not-Ended) is it
           (λ at. subst (StepIs v c.args.names.now c.args.mode c.loop-turn.budget c.step.new.budget (world l (g.S.StateStore.seen next.store) g.S.StateStore.order (view_of next.arenas)) next.now it.goes.comes) c.in-Answered.is
           (c.in-Ok-step.ensures.is (running-of here.now c.in_default.not-Ended) l is_code are v fits it.goes.comes at)));
       repeats = λ e ended. absurd (c.in_default.not-Ended e (ap (λ r. r.now) (before.still e ended).0 ∙ ended));
@@ -73,12 +73,12 @@ returns-in-Told g c =
     let next = c.step.new.run in
     let before = c.loop-turn.invariant in
     record {
-      counts = counts_then c.args.mode c.args.budget.now c.loop-turn.budget c.step.new.budget before.counts c.step.ensures.counts;
+      spends = spends-then c.args.mode c.args.budget.now c.loop-turn.budget c.step.new.budget before.counts c.step.ensures.spends;
       comes = λ l is_code are v fits d is.
           (let it = before.turns l is_code are v fits d is in
           told-comes v c.args.names.now c.args.mode c.args.budget.now c.loop-turn.budget c.step.new.budget
           (world l (g.S.StateStore.seen first.store) g.S.StateStore.order (view_of first.arenas)) (world l (g.S.StateStore.seen here.store) g.S.StateStore.order (view_of here.arenas))
-          (world l (g.S.StateStore.seen next.store) g.S.StateStore.order (view_of next.arenas)) first.now here.now next.now d c.in-Told.told c.text_of.result c.text_of.ensures refl refl before.counts c.step.ensures.counts (running-of here.now c.in_default.not-Ended) is it
+          (world l (g.S.StateStore.seen next.store) g.S.StateStore.order (view_of next.arenas)) first.now here.now next.now d c.in-Told.told c.text_of.result c.text_of.ensures refl refl before.counts c.step.ensures.spends (running-of here.now c.in_default.not-Ended) is it
           (λ at. subst (StepIs v c.args.names.now c.args.mode c.loop-turn.budget c.step.new.budget (world l (g.S.StateStore.seen next.store) g.S.StateStore.order (view_of next.arenas)) next.now it.goes.comes) c.in-Told.is
           (c.in-Ok-step.ensures.is (running-of here.now c.in_default.not-Ended) l is_code are v fits it.goes.comes at)));
       repeats = λ e ended. absurd (c.in_default.not-Ended e (ap (λ r. r.now) (before.still e ended).0 ∙ ended));
@@ -94,14 +94,14 @@ returns-in_default-step g c =
     let wanted = c.memory_wanted-in_default-step in
     let ended = ap (λ r. r.now) wanted.ensures.stopped in
     record {
-      counts = counts_then c.args.mode c.args.budget.now c.loop-turn.budget c.step.new.budget before.counts c.step.ensures.counts;
+      spends = spends-then c.args.mode c.args.budget.now c.loop-turn.budget c.step.new.budget before.counts c.step.ensures.spends;
       comes = λ l is_code are v fits d is.
           (let it = before.turns l is_code are v fits d is in
           let w = world l (g.S.StateStore.seen here.store) g.S.StateStore.order (view_of here.arenas) in
           memory-comes v c.args.names.now c.args.mode c.args.budget.now c.step.new.budget w (world l (g.S.StateStore.seen wanted.new.run.store) g.S.StateStore.order (view_of wanted.new.run.arenas)) first.now (Now.Ended End.Memory)
           wanted.new.run.now wanted.result d refl ended wanted.ensures.result
           (one-turn v c.args.names.now c.args.mode c.args.budget.now c.loop-turn.budget c.step.new.budget (world l (g.S.StateStore.seen first.store) g.S.StateStore.order (view_of first.arenas)) w w first.now here.now (Now.Ended End.Memory) d
-          refl refl before.counts c.step.ensures.counts (running-of here.now c.in_default.not-Ended) is it (c.in_default-step.ensures.stops (running-of here.now c.in_default.not-Ended) l is_code v fits it.goes.comes)));
+          refl refl before.counts c.step.ensures.spends (running-of here.now c.in_default.not-Ended) is it (c.in_default-step.ensures.stops (running-of here.now c.in_default.not-Ended) l is_code v fits it.goes.comes)));
       repeats = λ e at. absurd (c.in_default.not-Ended e (ap (λ r. r.now) (before.still e at).0 ∙ at));
       built = subst IsBuiltSoFar (sym wanted.ensures.result) tt;
       lasts = lasts-memory wanted.new.run.now wanted.result ended wanted.ensures.result;

@@ -87,3 +87,20 @@ returns-in_err-run_goal-in-Going-clause-stops g c = so-at-err _ c.from_residual-
     let some : 0 < c.in-Going.at.count = omega (arith, c.if-point-eq0.false) in
     ticks-is v c.args.names.now c.args.mode c.args.budget.now c.run_goal.new.budget w (Now.Ended End.Memory) d c.run_goal.ensures.counts
     (c.in_err-run_goal-in-Going.ensures.stops l is_code v fits c.args.names.now d some stands is.good is.rules))
+
+pub returns-in_ok-settle_due-in-Settling-clause-is : goal.returns-in_ok-settle_due-in-Settling-clause-is
+returns-in_ok-settle_due-in-Settling-clause-is g c = λ running l is_code are v fits d is.
+    let run = c.args.run.now in
+    let w : World _ = world l (g.S.StateStore.seen run.store) g.S.StateStore.order (view_of run.arenas) in
+    let stands : Stands w (Now.Settling c.in-Settling.field-0) d = subst (λ n. IsAt v c.args.names.now w n d) c.in-Settling.is is.is in
+    c.in_ok-settle_due-in-Settling.ensures.settles c.in-Settling.field-0 c.in-Settling.is l v c.args.names.now c.args.mode d stands is.good is.rules
+
+pub returns-in_err-settle_due-in-Settling-clause-stops : goal.returns-in_err-settle_due-in-Settling-clause-stops
+returns-in_err-settle_due-in-Settling-clause-stops g c = so-at-err _ c.from_residual-in_err-settle_due-in-Settling.result (λ running l is_code v fits d is.
+    c.in_err-settle_due-in-Settling.ensures.stops l v c.args.names.now c.args.mode d is.good)
+
+pub returns-in_ok-settle_due-in-Settling-clause-spends : goal.returns-in_ok-settle_due-in-Settling-clause-spends
+returns-in_ok-settle_due-in-Settling-clause-spends g c = c.settle_due.ensures.spends c.args.mode
+
+pub returns-in_err-settle_due-in-Settling-clause-spends : goal.returns-in_err-settle_due-in-Settling-clause-spends
+returns-in_err-settle_due-in-Settling-clause-spends g c = c.settle_due.ensures.spends c.args.mode

@@ -28,7 +28,7 @@ loop-turn-preserved g c =
     let next = c.in-Out.ensures in
     let m = machine_view g.S.StateStore.seen g.S.StateStore.order l.machine in
     let n = machine_view g.S.StateStore.seen g.S.StateStore.order c.next.new.self in
-    let called : Called m n l.budget c.next.new.budget = called-of m n l.budget c.next.new.budget next.counts next.within next.mode in
+    let called : Called m n l.budget c.next.new.budget = called-of m n l.budget c.next.new.budget next.spends next.within next.mode in
     record {
       rest = rest-then _ _ _ _ _ l.invariant.mode l.invariant.rest called.rest;
       within = λ h. next.within (l.invariant.within h);
@@ -47,7 +47,7 @@ returns-in_err-write_text-in-Out-clause-comes g c =
     let next = c.in-Out.ensures in
     let m = machine_view g.S.StateStore.seen g.S.StateStore.order l.machine in
     let n = machine_view g.S.StateStore.seen g.S.StateStore.order c.next.new.self in
-    let called : Called m n l.budget c.next.new.budget = called-of m n l.budget c.next.new.budget next.counts next.within next.mode in
+    let called : Called m n l.budget c.next.new.budget = called-of m n l.budget c.next.new.budget next.spends next.within next.mode in
     let p = err_from_is_err_and c.from_residual.result c.from_residual.ensures.1 in
     let write : p.0 ≡ Write = p.2 in
     rw (p.1, write)
@@ -63,7 +63,7 @@ returns-in_default g c =
     let next = c.next.ensures in
     let m = machine_view g.S.StateStore.seen g.S.StateStore.order l.machine in
     let n = machine_view g.S.StateStore.seen g.S.StateStore.order c.next.new.self in
-    let called : Called m n l.budget c.next.new.budget = called-of m n l.budget c.next.new.budget next.counts next.within next.mode in
+    let called : Called m n l.budget c.next.new.budget = called-of m n l.budget c.next.new.budget next.spends next.within next.mode in
     record {
       writes = record { no_fault = l.invariant.no_fault; write = tt; memory = tt; never_falls = omega (arith, l.invariant.no_fault) };
       within = λ h. next.within (l.invariant.within h);

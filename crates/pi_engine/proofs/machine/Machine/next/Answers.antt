@@ -11,7 +11,7 @@ use Rattle.pi_engine.proofs.RunsTold.{later, placed-in, lasting-in, told-by}
 use Rattle.pi_engine.proofs.machine.Machine.next.Goals as goal
 
 pub returns-clause-within : goal.returns-clause-within
-returns-clause-within g c = c.next_happening.ensures.counts.within
+returns-clause-within g c = c.next_happening.ensures.spends.within
 
 pub returns-clause-steps : goal.returns-clause-steps
 returns-clause-steps g c = λ on v program q events r.
