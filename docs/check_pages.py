@@ -1,7 +1,7 @@
 #!/usr/bin/env python3
 """Runs what the pages show and compares what it writes: check_pages.py PROGRAM [PAGE..]
 
-PROGRAM is a built picatq. Without PAGE it takes README.md, USE.md, LANGUAGE.md, BUILTINS.md and DIFFERENCES.md. Each difference is told, with
+PROGRAM is a built picatq. Without PAGE it takes README.md, USE.md, LANGUAGE.md, BUILTINS.md, CAUSES.md and DIFFERENCES.md. Each difference is told, with
 its page and line; the last line counts. CONTRIBUTING.md has the forms in which a page shows programs, commands and goals.
 
 Each name of BUILTINS.md has to stand in the tables of built-in names of the sources, and each of those in BUILTINS.md. The time of a first
@@ -9,7 +9,7 @@ build in README.md is that of the launcher."""
 import collections, dataclasses, os, pathlib, re, shutil, subprocess, sys, tempfile
 
 TOP = pathlib.Path(__file__).resolve().parent.parent
-PAGES = ['README.md', 'docs/USE.md', 'docs/LANGUAGE.md', 'docs/BUILTINS.md', 'docs/DIFFERENCES.md']
+PAGES = ['README.md', 'docs/USE.md', 'docs/LANGUAGE.md', 'docs/BUILTINS.md', 'docs/CAUSES.md', 'docs/DIFFERENCES.md']
 BUILT_INS = 'docs/BUILTINS.md'
 SECONDS = 120
 
