@@ -32,6 +32,7 @@ ball-stays v w Fault.RangeTooLong ball stays told = told
 ball-stays v w Fault.TermTooLarge ball stays told = told
 ball-stays v w (Fault.Arithmetic fault) ball stays told = told
 ball-stays v w (Fault.NotAConstraint r) ball stays told = tells-stays v w r (exception_with (codes "not_a_constraint")) ball stays told
+ball-stays v w (Fault.BadOption r) ball stays told = tells-stays v w r (exception_with (codes "bad_option")) ball stays told
 ball-stays v w Fault.ConstraintTooLarge ball stays told = told
 ball-stays v w Fault.DomainTooWide ball stays told = told
 ball-stays v w (Fault.Thrown r) ball stays told = tells-stays v w r thrown ball stays told

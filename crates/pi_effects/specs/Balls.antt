@@ -34,6 +34,7 @@ IsBall v Fault.RangeTooLong ball = ball ≡ range_too_long
 IsBall v Fault.TermTooLarge ball = ball ≡ term_too_large
 IsBall v (Fault.Arithmetic fault) ball = ball ≡ fault_term fault
 IsBall v (Fault.NotAConstraint r) ball = Tells v r (exception_with (codes "not_a_constraint")) ball
+IsBall v (Fault.BadOption r) ball = Tells v r (exception_with (codes "bad_option")) ball
 IsBall v Fault.ConstraintTooLarge ball = ball ≡ atom (codes "constraint_too_large")
 IsBall v Fault.DomainTooWide ball = ball ≡ atom (codes "domain_too_wide")
 IsBall v (Fault.Thrown r) ball = Tells v r thrown ball

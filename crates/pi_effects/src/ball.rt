@@ -31,6 +31,7 @@ pub fn ball_of<S: StateStore>(alloc: Global, s: &S, fault: Fault) -> Result<Term
         Fault::TermTooLarge => Ok(too_large(alloc)?),
         Fault::Arithmetic(fault) => Ok(arithmetic(alloc, fault)?),
         Fault::NotAConstraint(term) => Ok(exception(alloc, s, "not_a_constraint", term)?),
+        Fault::BadOption(term) => Ok(exception(alloc, s, "bad_option", term)?),
         Fault::ConstraintTooLarge => Ok(Term::atom(alloc, "constraint_too_large")?),
         Fault::DomainTooWide => Ok(Term::atom(alloc, "domain_too_wide")?),
         Fault::Thrown(term) => Ok(thrown_term(alloc, s, term)?),

@@ -45,6 +45,8 @@ pub enum Fault {
     Arithmetic(ArithFault),
     /// The term can't stand where it does in a constraint: `not_a_constraint(T)`.
     NotAConstraint(Ref),
+    /// The term is no option of `solve`, or a second one of its group: `bad_option(T)`.
+    BadOption(Ref),
     /// A constraint is past a limit: `constraint_too_large`.
     ConstraintTooLarge,
     /// A value that no domain can have: `domain_too_wide`.

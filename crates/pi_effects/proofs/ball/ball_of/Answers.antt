@@ -19,3 +19,9 @@ returns-in_ok-exception-in-NotAConstraint g c = λ ball a is.
     let v = g.S.StateStore.seen c.args.s.now in
     told-is v c.in-NotAConstraint.term (exception_with (codes "not_a_constraint")) c.in_ok-exception-in-NotAConstraint.field-0 ball (λ t h. c.in_ok-exception-in-NotAConstraint.ensures t a h)
     (subst (λ f. IsBall v f ball) c.in-NotAConstraint.is is)
+
+pub returns-in_ok-exception-in-BadOption : goal.returns-in_ok-exception-in-BadOption
+returns-in_ok-exception-in-BadOption g c = λ ball a is.
+    let v = g.S.StateStore.seen c.args.s.now in
+    told-is v c.in-BadOption.term (exception_with (codes "bad_option")) c.in_ok-exception-in-BadOption.field-0 ball (λ t h. c.in_ok-exception-in-BadOption.ensures t a h)
+    (subst (λ f. IsBall v f ball) c.in-BadOption.is is)
