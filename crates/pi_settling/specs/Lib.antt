@@ -8,6 +8,7 @@ pub mod Runs
 pub mod PropagationLaws
 pub mod Options
 pub mod Asked
+pub mod SolveCalls
 pub mod Confined
 pub mod Calm
 pub mod CalmLaws
