@@ -1,6 +1,7 @@
 -- Lemmas on the core meaning.
 pub mod AnswersBelow
 pub mod CalmStates
+pub mod ConfinedCalm
 pub mod CoreExamples
 pub mod DefinedLemmas
 pub mod FunctionsKeep
@@ -8,12 +9,15 @@ pub mod ItemsBelow
 pub mod KeepsGoals
 pub mod KeepsNames
 pub mod KeepsRules
+pub mod KeepsSolve
 pub mod LeftLemmas
 pub mod MeaningLemmas
+pub mod NarrowedLeft
 pub mod QueryLemmas
 pub mod QuietCalls
 pub mod QuietGoals
 pub mod QuietRules
+pub mod QuietSolve
 pub mod RuleLemmas
 pub mod SlotLemmas
 pub mod TablesKeep

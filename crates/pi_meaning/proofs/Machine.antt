@@ -8,6 +8,9 @@ pub mod RuleForms
 pub mod RunLemmas
 pub mod StackLemmas
 pub mod FactSteps
+pub mod SolveNames
+pub mod LabelTraces
+pub mod LabelSteps
 pub mod CallSteps
 pub mod GoodSteps
 pub mod HigherLemmas
@@ -19,6 +22,7 @@ pub mod WeightSteps
 pub mod LeaveLemmas
 pub mod EvaluationLemmas
 pub mod MachineExamples
+pub mod LabelExamples
 pub mod LaterStates
 pub mod CallFound
 pub mod NamedWeights

@@ -1,5 +1,9 @@
 -- Lemmas on what both meanings are made of.
+pub mod AskedAgain
+pub mod BoundIntegers
+pub mod BoundValues
 pub mod CallLemmas
+pub mod ConfinedAgain
 pub mod ConstraintEffects
 pub mod ConstraintExamples
 pub mod EffectNames
@@ -9,6 +13,8 @@ pub mod KnownLemmas
 pub mod LevelLemmas
 pub mod NamesApart
 pub mod SettleLemmas
+pub mod SolveBelow
+pub mod SolveExamples
 pub mod WholeExamples
 pub mod WholeLemmas
 pub mod TableLemmas

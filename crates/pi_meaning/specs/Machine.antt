@@ -3,6 +3,7 @@ pub mod NamedGoals
 pub mod Budget
 pub mod Configuration
 pub mod Remaining
+pub mod Filled
 pub mod Step
 pub mod Shape
 pub mod Laws

@@ -10,6 +10,7 @@ pub mod Level
 pub mod Names
 pub mod Raise
 pub mod Settle
+pub mod Solve
 pub mod Told
 pub mod View
 pub mod Within

@@ -1,24 +1,23 @@
 -- States from which goals of a run begin: evaluation keeps them so, and what a goal leaves is settled to one.
-use Rattle.std.proofs.Common.{◌≡◌, ℕ, zero, suc, ◌+◌, ◌≤◌, ◌==◌, Bool, true, false, List, [], ◌∷◌, ◌++◌, length, refl, ap, sym, subst, ◌∙◌, arith, append_assoc, append-nil}
+use Rattle.std.proofs.Common.{◌≡◌, ℕ, zero, suc, ◌≤◌, ◌==◌, Bool, true, false, List, [], ◌∷◌, ◌++◌, length, refl, ap, sym, subst, ◌∙◌, arith, append_assoc, append-nil}
 use Rattle.std.specs.Prelude.{ℤ, Some, not, ◌&&◌, replicate, slice_index_or}
 use Rattle.std.specs.Ordering.{is_eq, int_cmp}
 use Rattle.std.proofs.lemmas.Bool.Decides.{nat_tests}
 use Rattle.std.proofs.lemmas.Int.{ints}
 use Rattle.pi_terms.specs.Tree.{Tree, Trees}
-use Rattle.pi_terms.specs.Places.{Places, held}
+use Rattle.pi_terms.specs.Places.{Places}
 use Rattle.pi_constraints.specs.declared.constraint.Constraint.{Constraint}
 use Rattle.pi_constraints.specs.declared.domain.Span.{Span}
-use Rattle.pi_constraints.specs.State.{State, Variable, free, within, bound, binding, bindings, next, with_new, SpeaksBelow, PlacesBelow, IsState}
-use Rattle.pi_constraints.specs.Evaluation.{Evaluated, evaluated, EvaluatedAll, evaluated_all, slot_term, with_new_variables}
-use Rattle.pi_constraints.proofs.KeepsLemmas.{TreesBelow, Later, news-later, EvaluatedBelow, AllBelow, slot-below, evaluated-below, evaluated-all-below}
+use Rattle.pi_constraints.specs.State.{State, Variable, free, within, bound, binding, next, with_new, SpeaksBelow, PlacesBelow}
+use Rattle.pi_constraints.specs.Evaluation.{Evaluated, evaluated, EvaluatedAll, evaluated_all, with_new_variables}
+use Rattle.pi_constraints.proofs.KeepsLemmas.{TreesBelow, news-later, EvaluatedBelow, AllBelow, evaluated-below, evaluated-all-below}
 use Rattle.pi_constraints.proofs.StateLemmas.{held_is}
-use Rattle.pi_traces.proofs.AnswerLemmas.{EachAnswer}
+use Rattle.pi_traces.specs.Trace.{Trace, then}
+use Rattle.pi_traces.proofs.AnswerLemmas.{EachAnswer, each-map, each-then}
 use Rattle.pi_settling.specs.Calm.{IsCalm}
 use Rattle.pi_settling.specs.Load.{same_domain, is_another}
-use Rattle.pi_settling.specs.Settled.{with_events}
-use Rattle.pi_settling.specs.Settle.{stable_state}
 use Rattle.pi_settling.specs.Stable.{IsStable}
-use Rattle.pi_settling.proofs.CalmLemmas.{stable_is_calm, calm_goes_by_variables, new_variables_keep_calm, slot_makes_variables, evaluation_makes_variables, evaluation_of_all_makes_variables}
+use Rattle.pi_settling.proofs.CalmLemmas.{stable_is_calm, calm_goes_by_variables, new_variables_keep_calm, evaluation_makes_variables, evaluation_of_all_makes_variables}
 use Rattle.pi_settling.proofs.CalmEvents.{events_keep_calm}
 use Rattle.pi_settling.proofs.SettleLemmas.{gives_the_stable_state}
 use Rattle.pi_meaning.specs.Shared.Follows.{Follows}
@@ -35,6 +34,10 @@ calm-itself s is = (is, omega arith)
 
 pub calm-further : (s r q : State) → next s ≤ next r → CalmLater r q → CalmLater s q
 calm-further s r q h a = (a.0, omega (arith, h, a.1))
+
+-- what follows such states is later than the first
+pub onward : (s : State) (t : Trace State) (f : State → Trace State) → EachAnswer (CalmLater s) t → ((r : State) → CalmLater s r → EachAnswer (CalmLater r) (f r)) → EachAnswer (CalmLater s) (then t f)
+onward s t f a each = each-then (CalmLater s) (CalmLater s) t f a (λ r k. each-map (CalmLater r) (CalmLater s) (λ q m. calm-further s r q k.1 m) (f r) (each r k))
 
 pub news-calm : (k : ℕ) (s : State) → IsCalm s → CalmLater s (with_new_variables k s)
 news-calm k s is = (new_variables_keep_calm k s is, (news-later k s is.state).1)

@@ -14,19 +14,17 @@ use Rattle.pi_constraints.proofs.KeepsLemmas.{TreesBelow, speaks-more, trees-mor
 use Rattle.pi_core.specs.CoreTree.{PredTree}
 use Rattle.pi_effects.specs.Answer.{Answer}
 use Rattle.pi_effects.specs.Effect.{Effect, Succeeds, Fails, Writes, Raises, FunctionEffect, Gives, Refuses, succeeds_in}
-use Rattle.pi_effects.specs.Exception.{thrown, type_error}
+use Rattle.pi_effects.specs.Exception.{thrown}
 use Rattle.pi_effects.specs.Items.{each_tree}
 use Rattle.pi_effects.specs.Rows.{done_by}
 use Rattle.pi_effects.specs.Texts.{writing_predicates}
 use Rattle.pi_effects.specs.BuiltIns.{tests, test_in, writing_in, other_predicates, built_in_predicate, built_in_function}
-use Rattle.pi_traces.specs.Trace.{Trace, End, end, note, Deep, Tick, done, then}
-use Rattle.pi_traces.proofs.AnswerLemmas.{EachAnswer, each-map, each-then, each-caught}
+use Rattle.pi_traces.specs.Trace.{Trace, End, end, note, Deep, Tick, then}
+use Rattle.pi_traces.proofs.AnswerLemmas.{EachAnswer, each-caught}
 use Rattle.pi_settling.specs.Calm.{IsCalm}
 use Rattle.pi_settling.specs.DomainValues.{domain_function}
 use Rattle.pi_settling.specs.Goals.{constraint_goals, constraint_effect}
 use Rattle.pi_settling.specs.Posted.{posting_goal}
-use Rattle.pi_settling.specs.Within.{within_goal, notin_goal}
-use Rattle.pi_settling.specs.CalmLaws.{MaySettleAfter}
 use Rattle.pi_settling.proofs.CalmGoals.{within_may_settle, notin_may_settle}
 use Rattle.pi_settling.proofs.CalmPosted.{posted_may_settle}
 use Rattle.pi_meaning.specs.Shared.View.{View}
@@ -38,15 +36,15 @@ use Rattle.pi_meaning.specs.Shared.Names.{is_later_predicate, is_later_function,
 use Rattle.pi_meaning.specs.Shared.Given.{Setting}
 use Rattle.pi_meaning.specs.Shared.Handling.{handled_in, handling}
 use Rattle.pi_meaning.specs.Shared.Calls.{built_in, given_later, predicate_given, predicate_called, function_later, function_given, Called, called_by, unknown_name, with_planner, is_known, known_called, call_goal, catch_called, again_called, term_called, called_at_level, first_called}
-use Rattle.pi_meaning.specs.Shared.Follows.{Follows}
-use Rattle.pi_meaning.specs.CoreMeaning.Instances.{core_setting, predicate_or_call, built_later, whole}
+use Rattle.pi_meaning.specs.CoreMeaning.Instances.{core_setting, predicate_or_call, solve_or_unknown, built_later, whole}
 use Rattle.pi_meaning.proofs.Shared.FollowLemmas.{follows-within, follows-notin, follows-posted}
 use Rattle.pi_meaning.proofs.Shared.ConstraintEffects.{LeavesSo, within-leaves, notin-leaves, posting-leaves}
 use Rattle.pi_meaning.proofs.CoreMeaning.AnswersBelow.{LinesKeep, ◌&◌, lines-keep}
-use Rattle.pi_meaning.proofs.CoreMeaning.CalmStates.{CalmLater, calm-itself, calm-further, settled-calm}
+use Rattle.pi_meaning.proofs.CoreMeaning.CalmStates.{CalmLater, calm-itself, settled-calm, onward}
 use Rattle.pi_meaning.proofs.CoreMeaning.FunctionsKeep.{GivesKept, function-keeps, domain-keeps}
-use Rattle.pi_meaning.proofs.CoreMeaning.KeepsGoals.{AppliedLater, CallsKeep, LevelKeeps, calls-keep, NamesKeep, ball-left}
-use Rattle.pi_meaning.proofs.CoreMeaning.LeftLemmas.{Left, left-none, left-unified}
+use Rattle.pi_meaning.proofs.CoreMeaning.KeepsGoals.{AppliedLater, LevelKeeps, calls-keep, NamesKeep, ball-left}
+use Rattle.pi_meaning.proofs.CoreMeaning.KeepsSolve.{end-keeps, solve-keeps}
+use Rattle.pi_meaning.proofs.CoreMeaning.LeftLemmas.{Left, left-none, left-after, left-unified}
 
 -- ---- effects of predicates
 
@@ -105,9 +103,6 @@ tables-keep name ts s is below =
     (or-keeps s (option_map (writing_in s) (done_by writing_predicates name ts s)) _ (writing-keeps s is (done_by writing_predicates name ts s)) (others-keep name ts s is below))
 
 -- ---- goals of constraints
-
-left-after : (s r : State) → MaySettleAfter s r → Follows s r → Left s r
-left-after s r m f = record { follows = f; state = m.state; settles = m.settles; agents = m.agents }
 
 one-below : (n : ℕ) (f : List ℕ) (t : Tree) → SpeaksBelow n t → SpeaksBelow n (comp f (tree t no_trees))
 one-below n f t a = comp-below n f (tree t no_trees) (trees-below n t no_trees a (no-trees-below n))
@@ -189,13 +184,9 @@ option-keeps : (s : State) → IsCalm s → (v : View) (o : Option Effect) → O
 option-keeps s is v None h = tt
 option-keeps s is v (Some e) h = settled-effect-keeps s is v e h
 
-end-keeps : {A : Type 0} (P : A → Type 0) (e : End) → EachAnswer P (end e)
-unfolding EachAnswer
-end-keeps P e = tt
-
-or-else-keeps : (s : State) (o : Option (Trace State)) (e : End) → OptionKeeps s o → EachAnswer (CalmLater s) (unwrap_or o (end e))
-or-else-keeps s None e h = end-keeps (CalmLater s) e
-or-else-keeps s (Some t) e h = h
+or-else-keeps : (s : State) (o : Option (Trace State)) (t : Trace State) → OptionKeeps s o → EachAnswer (CalmLater s) t → EachAnswer (CalmLater s) (unwrap_or o t)
+or-else-keeps s None t h k = k
+or-else-keeps s (Some u) t h k = h
 
 first-keeps : (s : State) (o p : Option (Trace State)) → OptionKeeps s o → OptionKeeps s p → OptionKeeps s (option_or o p)
 first-keeps s None p a b = b
@@ -208,12 +199,13 @@ where-keeps s false t o a b = b
 abbrev setting : View → List PredTree → Setting
 setting v preds = core_setting v built_later preds
 
-given-keeps : (v : View) (preds : List PredTree) (l : Level) (name : List ℕ) (ts : Trees) (s : State) → IsCalm s → TreesBelow (next s) ts → OptionKeeps s (predicate_given (setting v preds) l name ts s)
+given-keeps : (v : View) (preds : List PredTree) (l : Level) → LevelKeeps l → (name : List ℕ) (ts : Trees) (s : State) → IsCalm s → TreesBelow (next s) ts → OptionKeeps s (predicate_given (setting v preds) l name ts s)
 unfolding predicate_given
-given-keeps v preds l name ts s is below =
+given-keeps v preds l k name ts s is below =
     first-keeps s (built_in (setting v preds) name ts s) (given_later (setting v preds) l name ts s) (option-keeps s is v (built_in_predicate name ts s) (tables-keep name ts s is below))
     (where-keeps s (is_later_predicate name (tree_count ts)) (built_later.predicate v l name ts s) None
-    (or-else-keeps s (option_map (settled_effect v s) (constraint_effect name ts s)) _ (option-keeps s is v (constraint_effect name ts s) (goal-keeps name ts s is below))) tt)
+    (or-else-keeps s (option_map (settled_effect v s) (constraint_effect name ts s)) (solve_or_unknown l name ts s) (option-keeps s is v (constraint_effect name ts s) (goal-keeps name ts s is below))
+    (solve-keeps l k name ts s is)) tt)
 
 or-called-keeps : (l : Level) → LevelKeeps l → (name : List ℕ) (ts : Trees) (s : State) → IsCalm s → TreesBelow (next s) ts → (o : Option (Trace State)) → OptionKeeps s o → EachAnswer (CalmLater s) (or_called o l name ts s)
 or-called-keeps l k name ts s is below None h = (calls-keep l k).called name ts s is below
@@ -221,7 +213,7 @@ or-called-keeps l k name ts s is below (Some t) h = h
 
 called-keeps : (v : View) (preds : List PredTree) (l : Level) → LevelKeeps l → (name : List ℕ) (ts : Trees) (s : State) → IsCalm s → TreesBelow (next s) ts → EachAnswer (CalmLater s) (predicate_called (setting v preds) l name ts s)
 unfolding predicate_called
-called-keeps v preds l k name ts s is below = or-called-keeps l k name ts s is below (predicate_given (setting v preds) l name ts s) (given-keeps v preds l name ts s is below)
+called-keeps v preds l k name ts s is below = or-called-keeps l k name ts s is below (predicate_given (setting v preds) l name ts s) (given-keeps v preds l k name ts s is below)
 
 -- ---- functions
 
@@ -277,9 +269,6 @@ CalledBelow n t more = SpeaksBelow n t × TreesBelow n (trees_of more)
 
 abbrev DeeperKeeps : Deeper → Type 0
 DeeperKeeps f = (t : Tree) (more : List Tree) (s : State) → IsCalm s → CalledBelow (next s) t more → EachAnswer (CalmLater s) (f t more s)
-
-onward : (s : State) (t : Trace State) (f : State → Trace State) → EachAnswer (CalmLater s) t → ((r : State) → CalmLater s r → EachAnswer (CalmLater r) (f r)) → EachAnswer (CalmLater s) (then t f)
-onward s t f a each = each-then (CalmLater s) (CalmLater s) t f a (λ r k. each-map (CalmLater r) (CalmLater s) (λ q m. calm-further s r q k.1 m) (f r) (each r k))
 
 called-more : (m n : ℕ) (t : Tree) (more : List Tree) → m ≤ n → CalledBelow m t more → CalledBelow n t more
 called-more m n t more h a = (speaks-more m n t h a.0, trees-more m n (trees_of more) h a.1)
@@ -390,6 +379,6 @@ pub whole-keep : (v : View) (preds : List PredTree) → NamesKeep (whole v built
 whole-keep v preds = record {
   predicates = λ l k name ts s is below.
       or-called-keeps l k name ts s is below (predicate_or_call (setting v preds) l name ts s)
-      (where-keeps s (is_call name (tree_count ts)) (first_called (setting v preds) l ts s) (predicate_given (setting v preds) l name ts s) (first-called-keeps v preds l k ts s is below) (given-keeps v preds l name ts s is below));
+      (where-keeps s (is_call name (tree_count ts)) (first_called (setting v preds) l ts s) (predicate_given (setting v preds) l name ts s) (first-called-keeps v preds l k ts s is below) (given-keeps v preds l k name ts s is below));
   functions = λ l k name ts s is below. or-applied-keeps l k name ts s is below (function_given (setting v preds) name ts s) (function-given-keeps v preds name ts s is below);
 }

@@ -1,5 +1,5 @@
 -- What goals leave that began in a state from which goals begin: new variables, a unification, and a fact that unifies.
-use Rattle.std.proofs.Common.{◌≡◌, ℕ, zero, suc, Bool, true, [], Option, Some, None, replicate, refl, sym, ◌∙◌, subst, arith}
+use Rattle.std.proofs.Common.{◌≡◌, ℕ, zero, suc, [], Option, Some, None, replicate, refl, sym, ◌∙◌, subst, arith}
 use Rattle.std.specs.Prelude.{List, Contains, option_map, option_and_then, ⊤}
 use Rattle.pi_terms.specs.Tree.{Tree, comp, Trees}
 use Rattle.pi_terms.specs.Places.{Places, held}
@@ -11,7 +11,7 @@ use Rattle.pi_constraints.specs.Evaluation.{Evaluated, EvaluatedAll, slot_term, 
 use Rattle.pi_constraints.proofs.KeepsLemmas.{EvaluatedBelow, AllBelow, Later, slot-below, speaks-more, comp-below, trees-below, no-trees-below, int-below, atom-below, unified-later, places-empty, news-keep}
 use Rattle.pi_core.specs.CoreTree.{ClauseTree}
 use Rattle.pi_settling.specs.SettlingLaws.{MaySettle}
-use Rattle.pi_settling.specs.CalmLaws.{KeepsTheRest}
+use Rattle.pi_settling.specs.CalmLaws.{KeepsTheRest, MaySettleAfter}
 use Rattle.pi_settling.proofs.CalmItems.{LooksLike, news-like, like-comes}
 use Rattle.pi_settling.proofs.CalmLemmas.{slot_makes_variables}
 use Rattle.pi_settling.proofs.CalmUnify.{unified_keeps_the_rest, unified_may_settle}
@@ -32,6 +32,10 @@ left-none s is may = record { follows = follows-itself s; state = is; settles = 
 
 pub left-then : (s r q : State) → Left s r → Left r q → Left s q
 left-then s r q a b = record { follows = follows-then s r q a.follows b.follows; state = b.state; settles = b.settles; agents = b.agents ∙ a.agents }
+
+-- a state that may settle after another one, and follows it
+pub left-after : (s r : State) → MaySettleAfter s r → Follows s r → Left s r
+left-after s r m f = record { follows = f; state = m.state; settles = m.settles; agents = m.agents }
 
 -- ---- new variables
 

@@ -1,6 +1,6 @@
 -- What `call` calls lasts as long as its level counts, and so all names of the language do, with what is built of later stages.
-use Rattle.std.proofs.Common.{◌≡◌, ℕ, suc, ◌-◌, ◌≤◌, Bool, true, false, cond, ◌||◌, List, [], length, refl, sym, ◌∙◌, ap, subst, arith}
-use Rattle.std.specs.Prelude.{Option, Some, None, option_map, unwrap_or, is_some, codes}
+use Rattle.std.proofs.Common.{◌≡◌, ℕ, suc, ◌-◌, ◌≤◌, Bool, true, false, cond, ◌||◌, List, [], length, refl, sym, ◌∙◌, ap, arith}
+use Rattle.std.specs.Prelude.{Option, Some, None, option_map, is_some, codes}
 use Rattle.std.specs.Option.{option_or}
 use Rattle.pi_terms.specs.Tree.{Tree, atom, Trees, no_trees, tree, tree_count}
 use Rattle.pi_terms.specs.Copy.{copy, new_variables}
@@ -13,7 +13,7 @@ use Rattle.pi_effects.specs.BuiltIns.{built_in_predicate, built_in_function, is_
 use Rattle.pi_effects.specs.Exception.{type_error}
 use Rattle.pi_settling.specs.Goals.{constraint_effect}
 use Rattle.pi_settling.specs.DomainValues.{domain_function}
-use Rattle.pi_traces.specs.Trace.{Trace, end, note, ans, Tick, Load, Out, done, then}
+use Rattle.pi_traces.specs.Trace.{Trace, done, then}
 use Rattle.pi_meaning.specs.Shared.View.{View}
 use Rattle.pi_meaning.specs.Shared.Within.{Within, a_query, a_body, resource_left}
 use Rattle.pi_meaning.specs.Shared.Level.{Level, lowest, over, calls_at, or_called}
@@ -23,38 +23,20 @@ use Rattle.pi_meaning.specs.Shared.Builtin.{settled_effect, function_trace}
 use Rattle.pi_meaning.specs.Shared.Handling.{handled_in, handling}
 use Rattle.pi_meaning.specs.Shared.Given.{Setting}
 use Rattle.pi_meaning.specs.Shared.Calls.{built_in, given_later, predicate_given, predicate_called, function_later, function_given, Called, called_by, unknown_name, with_planner, is_known, known_called, call_goal, catch_called, again_called, term_called, called_at_level, first_called}
-use Rattle.pi_meaning.specs.CoreMeaning.Instances.{is_called_by_name, core_setting, built_later, whole}
+use Rattle.pi_meaning.specs.CoreMeaning.Instances.{is_called_by_name, core_setting, solve_or_unknown, built_later, whole}
 use Rattle.pi_meaning.specs.CoreMeaning.Quiet.{TicksBetween}
 use Rattle.pi_traces.proofs.LastLemmas.{Lasts, Any, any-falls, less-left, done-lasts, raise-lasts, one-lasts, then-lasts, caught-lasts}
+use Rattle.pi_meaning.proofs.CoreMeaning.QuietSolve.{at-most-none, unknown-lasts, or-else-lasts, tick-lasts, solve-lasts}
 use Rattle.pi_meaning.proofs.Shared.KnownLemmas.{given-known, planner-later}
 use Rattle.pi_meaning.proofs.CoreMeaning.QuietGoals.{worth, counted, worth-counted, LevelLasts, calls-last, OptionLasts, option-lasts, settled-lasts, settled-effect-lasts, gave-lasts, BuiltinsLast}
-
--- no Ticks last in every trace
-none-lasts : {A : Type 0} (t : Trace A) → Lasts Any 0 t
-unfolding Lasts
-none-lasts (end e) = λ is. refl
-none-lasts (note Tick t) = none-lasts t
-none-lasts (note (Load k) t) = none-lasts t
-none-lasts (note (Out text) t) = none-lasts t
-none-lasts (ans x t) = (tt, none-lasts t)
-
-at-most-none : {A : Type 0} (d : ℕ) (t : Trace A) → d ≤ 0 → Lasts Any d t
-at-most-none d t h = let none : 0 ≡ d = omega (arith, h) in subst (λ (k : ℕ). Lasts Any k t) none (none-lasts t)
 
 cond-lasts : {A : Type 0} (d : ℕ) (c : Bool) (t u : Trace A) → Lasts Any d t → Lasts Any d u → Lasts Any d (cond c t u)
 cond-lasts d true t u a b = a
 cond-lasts d false t u a b = b
 
-unknown-lasts : (d : ℕ) (name : List ℕ) (k : ℕ) → Lasts {A = State} Any d (unknown_name name k)
-unknown-lasts d name k = raise-lasts Any d _
-
 or-lasts : {A : Type 0} (d : ℕ) (o p : Option (Trace A)) → OptionLasts d o → OptionLasts d p → OptionLasts d (option_or o p)
 or-lasts d None p a b = b
 or-lasts d (Some t) p a b = a
-
-or-else-lasts : {A : Type 0} (d : ℕ) (o : Option (Trace A)) (t : Trace A) → OptionLasts d o → Lasts Any d t → Lasts Any d (unwrap_or o t)
-or-else-lasts d None t a b = b
-or-else-lasts d (Some u) t a b = a
 
 some-lasts : {A : Type 0} (d : ℕ) (c : Bool) (t : Trace A) (o : Option (Trace A)) → Lasts Any d t → OptionLasts d o → OptionLasts d (cond c (Some t) o)
 some-lasts d true t o a b = a
@@ -65,16 +47,18 @@ some-lasts d false t o a b = b
 abbrev alone : View → List PredTree → Setting
 alone v preds = core_setting v built_later preds
 
-pub built-predicate-lasts : (d : ℕ) (v : View) (name : List ℕ) (ts : Trees) (s : State) → Lasts Any d (unwrap_or (option_map (settled_effect v s) (constraint_effect name ts s)) (unknown_name name (tree_count ts)))
-built-predicate-lasts d v name ts s =
-    or-else-lasts d (option_map (settled_effect v s) (constraint_effect name ts s)) (unknown_name name (tree_count ts)) (option-lasts d (settled_effect v s) (settled-effect-lasts d v s) (constraint_effect name ts s))
-    (unknown-lasts d name (tree_count ts))
+pub built-predicate-lasts : (preds : List PredTree) (r : TicksBetween preds) (f d : ℕ) (l : Level) → d ≤ counted l → LevelLasts preds r f l → (v : View) (name : List ℕ) (ts : Trees) (s : State) →
+    Lasts Any d (built_later.predicate v l name ts s)
+built-predicate-lasts preds r f d l h last v name ts s =
+    or-else-lasts d (option_map (settled_effect v s) (constraint_effect name ts s)) (solve_or_unknown l name ts s) (option-lasts d (settled_effect v s) (settled-effect-lasts d v s) (constraint_effect name ts s))
+    (solve-lasts preds r f d l h last name ts s)
 
-given-lasts : (v : View) (preds : List PredTree) (d : ℕ) (l : Level) (name : List ℕ) (ts : Trees) (s : State) → OptionLasts d (predicate_given (alone v preds) l name ts s)
+given-lasts : (v : View) (preds : List PredTree) (r : TicksBetween preds) (f d : ℕ) (l : Level) → d ≤ counted l → LevelLasts preds r f l → (name : List ℕ) (ts : Trees) (s : State) →
+    OptionLasts d (predicate_given (alone v preds) l name ts s)
 unfolding predicate_given
-given-lasts v preds d l name ts s =
+given-lasts v preds r f d l h last name ts s =
     or-lasts d (built_in (alone v preds) name ts s) (given_later (alone v preds) l name ts s) (option-lasts d (settled_effect v s) (settled-effect-lasts d v s) (built_in_predicate name ts s))
-    (some-lasts d (is_later_predicate name (tree_count ts)) (built_later.predicate v l name ts s) None (built-predicate-lasts d v name ts s) tt)
+    (some-lasts d (is_later_predicate name (tree_count ts)) (built_later.predicate v l name ts s) None (built-predicate-lasts preds r f d l h last v name ts s) tt)
 
 resource-lasts : (d : ℕ) (within : Within) (s : State) → Lasts Any d (resource_left within s)
 resource-lasts d a_query s = raise-lasts Any d (atom (codes "no_resource"))
@@ -104,7 +88,7 @@ predicate-lasts : (v : View) (preds : List PredTree) (r : TicksBetween preds) (f
     Finds v preds l name ts s → Lasts Any d (predicate_called (alone v preds) l name ts s)
 unfolding predicate_called Finds
 predicate-lasts v preds r f d l h last name ts s found =
-    called-lasts preds r f d l h last name ts s (predicate_given (alone v preds) l name ts s) (given-lasts v preds d l name ts s) found
+    called-lasts preds r f d l h last name ts s (predicate_given (alone v preds) l name ts s) (given-lasts v preds r f d l h last name ts s) found
 
 -- a name that is given, or that the program has
 known-finds : (v : View) (preds : List PredTree) (l : Level) (name : List ℕ) (ts : Trees) (s : State) → is_known (alone v preds) name (tree_count ts) ≡ true → Finds v preds l name ts s
@@ -187,11 +171,6 @@ again-lasts : (preds : List PredTree) (r : TicksBetween preds) (f d : ℕ) (l : 
 again-lasts preds r f d l last deeper each no_trees s = done-lasts Any d
 again-lasts preds r f d l last deeper each (tree t ts) s = goal-lasts preds r f d l last deeper each t (each_tree ts) s
 
--- a Tick in front of what lasts one less
-tick-lasts : {A : Type 0} (d : ℕ) (t : Trace A) → Lasts Any (d - 1) t → Lasts Any d (note Tick t)
-unfolding Lasts
-tick-lasts d t a = a
-
 term-lasts : (v : View) (preds : List PredTree) (r : TicksBetween preds) (f d : ℕ) (l : Level) → d ≤ counted l → LevelLasts preds r f l → (deeper : Deeper) → DeeperLasts (d - 1) deeper →
     (t : Tree) (s : State) (o : Option Called) → Lasts Any d (term_called (alone v preds) l deeper t s o)
 term-lasts v preds r f d l h last deeper each t s None = raise-lasts Any d (type_error (codes "callable") t s)
@@ -221,6 +200,7 @@ first-lasts v preds r f d (over c l) h last (tree t ts) s = at-level-lasts v pre
 pub whole-lasts : (v : View) (preds : List PredTree) (r : TicksBetween preds) → BuiltinsLast preds r (whole v built_later preds)
 whole-lasts v preds r = record {
   predicates = λ f d l h last name ts s.
-      some-lasts d (is_call name (tree_count ts)) (first_called (alone v preds) l ts s) (predicate_given (alone v preds) l name ts s) (first-lasts v preds r f d l h last ts s) (given-lasts v preds d l name ts s);
+      some-lasts d (is_call name (tree_count ts)) (first_called (alone v preds) l ts s) (predicate_given (alone v preds) l name ts s) (first-lasts v preds r f d l h last ts s)
+      (given-lasts v preds r f d l (omega (arith, h, (worth-counted l).0)) last name ts s);
   functions = λ d l name ts s. function-given-lasts v preds d name ts s;
 }

@@ -2,11 +2,13 @@
 use Rattle.std.proofs.Common.{◌≡◌, ℕ, zero, suc, List, [], ◌∷◌, ◌++◌, refl, ap, sym, ◌∙◌, arith}
 use Rattle.std.proofs.Math.Path.{fun_ext}
 use Rattle.std.specs.Prelude.{Option, Some, None, codes, pos, slice_set}
-use Rattle.pi_terms.specs.Tree.{Tree, int}
+use Rattle.pi_terms.specs.Tree.{Tree, Trees, int}
 use Rattle.pi_terms.specs.Copy.{copy, new_variables}
 use Rattle.pi_constraints.specs.State.{State, next}
 use Rattle.pi_constraints.specs.Unify.{unified}
-use Rattle.pi_core.specs.GoalTree.{GoalTree}
+use Rattle.pi_core.specs.GoalTree.{GoalTree, GoalTrees}
+use Rattle.pi_core.specs.CoreTree.{ClauseTree}
+use Rattle.pi_settling.specs.Choices.{Pending}
 use Rattle.pi_traces.specs.Trace.{end, Raise, done, one, alt, then, first}
 use Rattle.pi_traces.specs.Control.{negated, chosen, collected, counted, caught}
 use Rattle.pi_meaning.specs.CoreMeaning.Builtins.{Builtins}
@@ -19,9 +21,9 @@ use Rattle.pi_meaning.specs.CoreMeaning.Meaning.{with_slot, with_list, meaning}
 use Rattle.pi_meaning.specs.Shared.Handling.{handled_in}
 use Rattle.pi_terms.specs.ListCopies.{list_of_copies, new_in_all}
 use Rattle.pi_traces.proofs.TraceLemmas.{then-assoc}
-use Rattle.pi_meaning.specs.Machine.Configuration.{Back, Choice, rules_left, facts_left, branches_left, Strict, once_level, not_level, if_level, guard_level, value_level, list_level, number_level, Entry, choice, strict, catch_level, left, failed, raising, config}
-use Rattle.pi_meaning.specs.Machine.Remaining.{point, continued, start_of, choice_trace, level_trace, catch_trace, around, now_trace}
-use Rattle.pi_meaning.specs.Machine.Step.{unresolved, choice_step, end_step, handler_step, Open, none_open, strict_open, catch_open, beneath, newest_open, below_left}
+use Rattle.pi_meaning.specs.Machine.Configuration.{Back, Called, Choice, rules_left, facts_left, branches_left, alternatives_left, Strict, once_level, not_level, if_level, guard_level, value_level, list_level, number_level, Entry, choice, strict, catch_level, left, failed, raising, config}
+use Rattle.pi_meaning.specs.Machine.Remaining.{point, continued, start_of, alternatives_trace, choice_trace, level_trace, catch_trace, around, now_trace}
+use Rattle.pi_meaning.specs.Machine.Step.{unresolved, branch, try_rules, try_facts, end_step, handler_step, Open, none_open, strict_open, catch_open, beneath, newest_open, below_left}
 use Rattle.pi_meaning.specs.Machine.Shape.{IsBalanced}
 use Rattle.pi_meaning.proofs.Machine.StackLemmas.{IsClosed, Reach, reach, exit-passes}
 use Rattle.pi_meaning.proofs.Machine.RunLemmas.{goal-alone}
@@ -31,11 +33,22 @@ use Rattle.pi_meaning.proofs.Machine.AnswerSteps.{goes-on, append-none}
 
 -- ---- no further answer
 
-pub choice-ends : (given : Builtins) (l : Level) (c : Choice) (b : Back) (es : List Entry) → Is given l (choice c b ∷ es) done (choice_step c b es)
+pub rules-end : (given : Builtins) (l : Level) (called : Called) (cs : List ClauseTree) (b : Back) (es : List Entry) → Is given l (choice (rules_left called cs) b ∷ es) done (try_rules called cs b es)
 unfolding around choice_trace alt
-choice-ends given l (rules_left called cs) b es = rules-tried given l called cs b es
-choice-ends given l (facts_left ts cs) b es = facts-tried given l ts cs b es
-choice-ends given l (branches_left gs) b es = branch-is given l gs b es
+rules-end given l called cs b es = rules-tried given l called cs b es
+
+pub facts-end : (given : Builtins) (l : Level) (ts : Trees) (cs : List ClauseTree) (b : Back) (es : List Entry) → Is given l (choice (facts_left ts cs) b ∷ es) done (try_facts ts cs b es)
+unfolding around choice_trace alt
+facts-end given l ts cs b es = facts-tried given l ts cs b es
+
+pub branches-end : (given : Builtins) (l : Level) (gs : GoalTrees) (b : Back) (es : List Entry) → Is given l (choice (branches_left gs) b ∷ es) done (branch gs b es)
+unfolding around choice_trace alt
+branches-end given l gs b es = branch-is given l gs b es
+
+pub alternatives-end : (given : Builtins) (l : Level) (name : List ℕ) (args : List Tree) (p : Pending) (b : Back) (es : List Entry) →
+    Is given l (choice (alternatives_left name args p []) b ∷ es) done (config failed es)
+unfolding around choice_trace alternatives_trace now_trace alt
+alternatives-end given l name args p b es = refl
 
 -- a function call without an answer
 pub unresolved-raise : (A : Type 0) (called : Tree) (s : State) → raised_with {A = A} (codes "unresolved_function_call") called s ≡ end (Raise (unresolved called s))

@@ -1,13 +1,14 @@
 -- A term that was evaluated comes to the same once more, with nothing new: its slots are filled.
-use Rattle.std.proofs.Common.{◌≡◌, ℕ, zero, suc, ◌<◌, List, [], ◌∷◌, length, refl, ap, sym, subst, ◌∙◌}
-use Rattle.std.specs.Prelude.{Option, Some, None, slice_set}
+use Rattle.std.proofs.Common.{◌≡◌, ℕ, zero, suc, ◌<◌, List, [], ◌∷◌, length, refl, ap, sym, subst, ◌∙◌, arith}
+use Rattle.std.specs.Prelude.{Bool, true, false, ◌&&◌, Option, Some, None, is_some, slice_set}
+use Rattle.pi_meaning.specs.Machine.Filled.{is_filled, are_filled}
 use Rattle.std.proofs.lemmas.List.{length-set, get_or-set_same}
 use Rattle.pi_terms.specs.Tree.{Tree, var, int, atom, comp, Trees, no_trees, tree}
 use Rattle.pi_terms.specs.Places.{Places, held}
 use Rattle.pi_constraints.specs.State.{State, next, SpeaksBelow}
 use Rattle.pi_terms.specs.Variables.{Occurs}
 use Rattle.pi_constraints.specs.Evaluation.{Evaluated, EvaluatedAll, slot_term, evaluated, evaluated_all}
-use Rattle.pi_constraints.proofs.KeepsLemmas.{TreesBelow, first-below, rest-below, args-below}
+use Rattle.pi_constraints.proofs.KeepsLemmas.{TreesBelow, var-below, no-trees-below, trees-below, first-below, rest-below, args-below}
 
 -- the slots of a term are filled, and with them it is this term
 mutual
@@ -112,6 +113,56 @@ mutual
   all-filled-again f _ _ (one_more {t = t} {u = u} {ts = ts} {us = us} a b) q =
       ap (λ (x : Evaluated). in_front_of x (evaluated_all ts x.slots x.state)) (filled-again f t u a q)
       ∙ ap (in_front_of (record { tree = u; slots = f; state = q })) (all-filled-again f ts us b q)
+
+-- ---- the test by which slots are looked at
+
+held-inside : (e : Places) (k : ℕ) → is_some (held e k) ≡ true → k < length e
+held-inside [] k h = absurd cc
+held-inside (x ∷ e) zero h = omega arith
+held-inside (x ∷ e) (suc k) h = let less : k < length e = held-inside e k h in omega arith
+
+both-true : (a b : Bool) → (a && b) ≡ true → (a ≡ true) × (b ≡ true)
+both-true true b h = (refl, h)
+both-true false b h = absurd cc
+
+mutual
+  unfolding is_filled Occurs
+
+  filled-below : (e : Places) (t : Tree) → is_filled e t ≡ true → SpeaksBelow (length e) t
+  filled-below e (var k) h = var-below (length e) k (held-inside e k h)
+  filled-below e (int n) h = λ m occurs. absurd occurs
+  filled-below e (atom name) h = λ m occurs. absurd occurs
+  filled-below e (comp name ts) h = λ m occurs. all-filled-below e ts h m occurs
+
+  all-filled-below : (e : Places) (ts : Trees) → are_filled e ts ≡ true → TreesBelow (length e) ts
+  all-filled-below e no_trees h = no-trees-below (length e)
+  all-filled-below e (tree t ts) h =
+      let parts : (is_filled e t ≡ true) × (are_filled e ts ≡ true) = both-true (is_filled e t) (are_filled e ts) h in
+      trees-below (length e) t ts (filled-below e t parts.0) (all-filled-below e ts parts.1)
+
+-- arguments that were evaluated and whose slots are filled, from any state once more
+pub arguments-again : (ts : Trees) (e : Places) (s : State) → are_filled (evaluated_all ts e s).slots ts ≡ true → (q : State) →
+    evaluated_all ts (evaluated_all ts e s).slots q ≡ record { trees = (evaluated_all ts e s).trees; slots = (evaluated_all ts e s).slots; state = q }
+arguments-again ts e s h q =
+    let all : EvaluatedAll = evaluated_all ts e s in
+    all-filled-again all.slots ts all.trees (evaluated-all-fills ts e s (subst (λ n. TreesBelow n ts) (evaluated-all-more ts e s).as_many (all-filled-below all.slots ts h))) q
+
+mutual
+  unfolding is_filled
+
+  filled-is : (f : Places) (t u : Tree) → Filled f t u → is_filled f t ≡ true
+  filled-is f _ _ (in_slot k u h) = ap is_some h
+  filled-is f _ _ (is_int n) = refl
+  filled-is f _ _ (is_atom name) = refl
+  filled-is f _ _ (is_comp name {ts = ts} {us = us} a) = all-filled-are f ts us a
+
+  all-filled-are : (f : Places) (ts us : Trees) → AllFilled f ts us → are_filled f ts ≡ true
+  all-filled-are f _ _ none = refl
+  all-filled-are f _ _ (one_more {t = t} {u = u} {ts = ts} {us = us} a b) = ap (λ c. c && are_filled f ts) (filled-is f t u a) ∙ all-filled-are f ts us b
+
+-- arguments of which each slot is one of the block's
+pub arguments-filled : (ts : Trees) (e : Places) (s : State) → TreesBelow (length e) ts → are_filled (evaluated_all ts e s).slots ts ≡ true
+arguments-filled ts e s h = all-filled-are (evaluated_all ts e s).slots ts (evaluated_all ts e s).trees (evaluated-all-fills ts e s h)
 
 -- a term that was evaluated, from any state once more
 pub evaluated-again : (t : Tree) (e : Places) (s : State) → SpeaksBelow (length e) t → (q : State) →

@@ -15,8 +15,8 @@ use Rattle.pi_meaning.specs.CoreMeaning.Facts.{fits_modes}
 use Rattle.pi_meaning.specs.CoreMeaning.Run.{Solution}
 use Rattle.pi_syntax.specs.declared.program.Mode.{Mode}
 use Rattle.pi_core.specs.declared.core_program.NameSlot.{NameSlot}
-use Rattle.pi_meaning.specs.Machine.Configuration.{Frame, more, return, give, Back, Called, Choice, rules_left, facts_left, branches_left, Strict, once_level, not_level, if_level, guard_level, value_level, list_level, number_level, Entry, choice, strict, catch_level, left, Now, going, settling, failed, raising, Config, config, behind, telling}
-use Rattle.pi_meaning.specs.Machine.Step.{back_to, branch, guarding, tried, try_rules, with_fact, from_unifying, later_facts, fact_tried, try_facts, try_clauses, later_rules, call_step, predicate_step, effect_step, function_step, value_step, goal_step, frame_step, Open, none_open, strict_open, catch_open, newest_open, strict_step, leave, fits, told_step, answer_step, choice_step, end_step, fail_step, below_left, raise_step, now_step, step, later_step, name_step, later_value, other_value, trial, with_rest, name_call, left_now, loaded_step}
+use Rattle.pi_meaning.specs.Machine.Configuration.{Frame, more, return, give, Back, Called, Choice, rules_left, facts_left, branches_left, alternatives_left, Strict, once_level, not_level, if_level, guard_level, value_level, list_level, number_level, Entry, choice, strict, catch_level, left, Now, going, settling, failed, raising, Config, config, behind, telling}
+use Rattle.pi_meaning.specs.Machine.Step.{back_to, branch, guarding, tried, try_rules, with_fact, from_unifying, later_facts, fact_tried, try_facts, try_clauses, later_rules, call_step, predicate_step, effect_step, function_step, value_step, goal_step, frame_step, Open, none_open, strict_open, catch_open, newest_open, strict_step, leave, fits, told_step, answer_step, choice_step, end_step, fail_step, below_left, raise_step, now_step, step, later_step, name_step, later_value, other_value, trial, with_rest, Rest, NameCall, name_call, left_now, loaded_step, later_alternatives, alternatives_step, label_step, labels_step, solve_step}
 use Rattle.pi_meaning.specs.Machine.Shape.{IsBalanced, IsGood}
 use Rattle.pi_meaning.specs.Machine.Laws.{GoesOnGood}
 use Rattle.pi_meaning.proofs.Machine.StackLemmas.{IsClosed, IsFound, newest-found}
@@ -24,6 +24,12 @@ use Rattle.pi_meaning.proofs.Machine.EndSteps.{IsMatched, left-matched}
 use Rattle.pi_effects.specs.Effect.{Effect, FunctionEffect}
 use Rattle.pi_meaning.specs.Shared.Effects.{predicate_effect, value_effect}
 use Rattle.pi_meaning.specs.Shared.Settle.{settlement}
+use Rattle.pi_constraints.specs.declared.constraint.Item.{Item}
+use Rattle.pi_settling.specs.Options.{Options, Objective, ValueWord}
+use Rattle.pi_settling.specs.Asked.{Asked, labels, raises}
+use Rattle.pi_settling.specs.SolveCalls.{solve_asked}
+use Rattle.pi_settling.specs.Confined.{confined}
+use Rattle.pi_settling.specs.Choices.{Pending, pending, picked, Alternative}
 
 pub closed-rest : (n : ℕ) (above rest : List Entry) → IsClosed n above → IsBalanced n (above ++ rest) → IsBalanced 0 rest
 unfolding IsClosed IsBalanced
@@ -120,40 +126,55 @@ predicate-good : (o : Option PredTree) (all : EvaluatedAll) (k : List Frame) (es
 predicate-good None all k es h = record { balanced = h }
 predicate-good (Some pred) all k es h = call-good pred.quiet _ (record { balanced = clauses-keep pred.index pred.clauses all.trees _ _ h })
 
-later-good : (later : Bool) (preds : List PredTree) (name : List ℕ) (all : EvaluatedAll) (k : List Frame) (es : List Entry) → IsBalanced 0 es →
-    GoesOnGood (later_step later preds (name_call name all) k es)
-later-good true preds name all k es h = record { balanced = h }
-later-good false preds name all k es h = predicate-good (find_pred false name (tree_count all.trees) preds) all k es h
+label-good : (c : NameCall) (w : ValueWord) (s : State) (r : Rest) (o : Option Pending) → IsBalanced 0 r.stack → Keeps (label_step c w s r o)
+unfolding IsBalanced
+label-good c w s r None h = h
+label-good c w s r (Some p) h = h
 
-effect-good : (v : View) (o : Option Effect) (preds : List PredTree) (name : List ℕ) (all : EvaluatedAll) (gs : GoalTrees) (k : List Frame) (es : List Entry) → IsBalanced 0 es →
-    GoesOnGood (effect_step v o preds (name_call name all) (with_rest gs k es))
-effect-good v None preds name all gs k es h = later-good (is_later_predicate name (tree_count all.trees)) preds name all (behind gs k) es h
-effect-good v (Some d) preds name all gs k es h = record { balanced = h }
+labels-good : (objective : Option Objective) (o : Options) (items : List Item) (c : NameCall) (r : Rest) → IsBalanced 0 r.stack → Keeps (labels_step objective o items c r)
+labels-good (Some objective) o items c r h = h
+labels-good None o items c r h =
+    let s : State = confined c.all.state items in label-good c o.value s r (picked (pending s items) o.variable) h
 
-name-good : (called : Bool) (v : View) (preds : List PredTree) (name : List ℕ) (all : EvaluatedAll) (gs : GoalTrees) (k : List Frame) (es : List Entry) → IsBalanced 0 es →
-    GoesOnGood (name_step called v preds (name_call name all) (with_rest gs k es))
-name-good true v preds name all gs k es h = record { balanced = h }
-name-good false v preds name all gs k es h = effect-good v (predicate_effect name all.trees all.state) preds name all gs k es h
+solve-good : (a : Option Asked) (c : NameCall) (r : Rest) → IsBalanced 0 r.stack → Keeps (solve_step a c r)
+solve-good None c r h = h
+solve-good (Some (raises ball)) c r h = h
+solve-good (Some (labels o items)) c r h = labels-good o.objective o items c r h
+
+later-good : (later : Bool) (preds : List PredTree) (name : List ℕ) (args : List Tree) (all : EvaluatedAll) (gs : GoalTrees) (k : List Frame) (es : List Entry) → IsBalanced 0 es →
+    GoesOnGood (later_step later preds (name_call name args all) (with_rest gs k es))
+later-good true preds name args all gs k es h = record { balanced = solve-good (solve_asked name all.trees all.state) (name_call name args all) (with_rest gs k es) h }
+later-good false preds name args all gs k es h = predicate-good (find_pred false name (tree_count all.trees) preds) all (behind gs k) es h
+
+effect-good : (v : View) (o : Option Effect) (preds : List PredTree) (name : List ℕ) (args : List Tree) (all : EvaluatedAll) (gs : GoalTrees) (k : List Frame) (es : List Entry) → IsBalanced 0 es →
+    GoesOnGood (effect_step v o preds (name_call name args all) (with_rest gs k es))
+effect-good v None preds name args all gs k es h = later-good (is_later_predicate name (tree_count all.trees)) preds name args all gs k es h
+effect-good v (Some d) preds name args all gs k es h = record { balanced = h }
+
+name-good : (called : Bool) (v : View) (preds : List PredTree) (name : List ℕ) (args : List Tree) (all : EvaluatedAll) (gs : GoalTrees) (k : List Frame) (es : List Entry) → IsBalanced 0 es →
+    GoesOnGood (name_step called v preds (name_call name args all) (with_rest gs k es))
+name-good true v preds name args all gs k es h = record { balanced = h }
+name-good false v preds name args all gs k es h = effect-good v (predicate_effect name all.trees all.state) preds name args all gs k es h
 
 function-good : (o : Option PredTree) (all : EvaluatedAll) (into : ℕ) (k : List Frame) (es : List Entry) → IsBalanced 0 es → GoesOnGood (function_step o all into k es)
 unfolding IsBalanced
 function-good None all into k es h = record { balanced = h }
 function-good (Some pred) all into k es h = call-good pred.quiet _ (record { balanced = rules-keep _ _ _ _ h })
 
-later-value-good : (later : Bool) (preds : List PredTree) (name : List ℕ) (all : EvaluatedAll) (into : ℕ) (k : List Frame) (es : List Entry) → IsBalanced 0 es →
-    GoesOnGood (later_value later preds (name_call name all) into k es)
-later-value-good true preds name all into k es h = record { balanced = h }
-later-value-good false preds name all into k es h = function-good (find_pred true name (tree_count all.trees) preds) all into k es h
+later-value-good : (later : Bool) (preds : List PredTree) (name : List ℕ) (args : List Tree) (all : EvaluatedAll) (into : ℕ) (k : List Frame) (es : List Entry) → IsBalanced 0 es →
+    GoesOnGood (later_value later preds (name_call name args all) into k es)
+later-value-good true preds name args all into k es h = record { balanced = h }
+later-value-good false preds name args all into k es h = function-good (find_pred true name (tree_count all.trees) preds) all into k es h
 
-other-value-good : (resource : Bool) (v : View) (preds : List PredTree) (name : List ℕ) (all : EvaluatedAll) (into : ℕ) (gs : GoalTrees) (k : List Frame) (es : List Entry) → IsBalanced 0 es →
-    GoesOnGood (other_value resource v preds (name_call name all) into (with_rest gs k es))
-other-value-good true v preds name all into gs k es h = record { balanced = h }
-other-value-good false v preds name all into gs k es h = later-value-good (is_later_function name (tree_count all.trees)) preds name all into (behind gs k) es h
+other-value-good : (resource : Bool) (v : View) (preds : List PredTree) (name : List ℕ) (args : List Tree) (all : EvaluatedAll) (into : ℕ) (gs : GoalTrees) (k : List Frame) (es : List Entry) → IsBalanced 0 es →
+    GoesOnGood (other_value resource v preds (name_call name args all) into (with_rest gs k es))
+other-value-good true v preds name args all into gs k es h = record { balanced = h }
+other-value-good false v preds name args all into gs k es h = later-value-good (is_later_function name (tree_count all.trees)) preds name args all into (behind gs k) es h
 
-value-good : (v : View) (o : Option FunctionEffect) (preds : List PredTree) (name : List ℕ) (all : EvaluatedAll) (into : ℕ) (gs : GoalTrees) (k : List Frame) (es : List Entry) → IsBalanced 0 es →
-    GoesOnGood (value_step v o preds (name_call name all) into (with_rest gs k es))
-value-good v None preds name all into gs k es h = other-value-good (is_resource name (tree_count all.trees)) v preds name all into gs k es h
-value-good v (Some d) preds name all into gs k es h = record { balanced = h }
+value-good : (v : View) (o : Option FunctionEffect) (preds : List PredTree) (name : List ℕ) (args : List Tree) (all : EvaluatedAll) (into : ℕ) (gs : GoalTrees) (k : List Frame) (es : List Entry) → IsBalanced 0 es →
+    GoesOnGood (value_step v o preds (name_call name args all) into (with_rest gs k es))
+value-good v None preds name args all into gs k es h = other-value-good (is_resource name (tree_count all.trees)) v preds name args all into gs k es h
+value-good v (Some d) preds name args all into gs k es h = record { balanced = h }
 
 goal-good : (v : View) (preds : List PredTree) (g : GoalTree) (gs : GoalTrees) (e : Places) (s : State) (k : List Frame) (es : List Entry) → IsBalanced 0 es →
     GoesOnGood (goal_step v preds g e s (with_rest gs k es))
@@ -162,9 +183,9 @@ goal-good v preds truth gs e s k es h = record { balanced = h }
 goal-good v preds fail gs e s k es h = record { balanced = h }
 goal-good v preds tick gs e s k es h = record { balanced = h }
 goal-good v preds (call name args) gs e s k es h =
-    let all : EvaluatedAll = evaluated_all (trees_of args) e s in name-good (is_call name (tree_count all.trees)) v preds name all gs k es h
+    let all : EvaluatedAll = evaluated_all (trees_of args) e s in name-good (is_call name (tree_count all.trees)) v preds name args all gs k es h
 goal-good v preds (apply name args into) gs e s k es h =
-    let all : EvaluatedAll = evaluated_all (trees_of args) e s in value-good v (value_effect name all.trees all.state) preds name all into gs k es h
+    let all : EvaluatedAll = evaluated_all (trees_of args) e s in value-good v (value_effect name all.trees all.state) preds name args all into gs k es h
 goal-good v preds (seq hs) gs e s k es h = record { balanced = h }
 goal-good v preds (alternatives hs) gs e s k es h = record { balanced = branch-keeps hs (back_to e s (behind gs k)) es h }
 goal-good v preds (if_else test g other) gs e s k es h = record { balanced = h }
@@ -221,10 +242,21 @@ end-keeps (value_level called into) b es h = h
 end-keeps (list_level slot into got) b es h = h
 end-keeps (number_level into n) b es h = h
 
-choice-keeps : (c : Choice) (b : Back) (es : List Entry) → IsBalanced 0 es → Keeps (choice_step c b es)
-choice-keeps (rules_left called cs) b es h = rules-keep called cs b es h
-choice-keeps (facts_left ts cs) b es h = facts-keep ts cs b es h
-choice-keeps (branches_left gs) b es h = branch-keeps gs b es h
+later-alternatives-keep : (name : List ℕ) (args : List Tree) (p : Pending) (alts : List Alternative) (b : Back) (es : List Entry) → IsBalanced 0 es →
+    IsBalanced 0 (later_alternatives name args p alts b es)
+unfolding IsBalanced
+later-alternatives-keep name args p [] b es h = h
+later-alternatives-keep name args p (a ∷ alts) b es h = h
+
+alternatives-good : (name : List ℕ) (args : List Tree) (p : Pending) (alts : List Alternative) (b : Back) (es : List Entry) → IsBalanced 0 es → GoesOnGood (alternatives_step name args p alts b es)
+alternatives-good name args p [] b es h = record { balanced = h }
+alternatives-good name args p (a ∷ alts) b es h = record { balanced = later-alternatives-keep name args p alts b es h }
+
+choice-good : (c : Choice) (b : Back) (es : List Entry) → IsBalanced 0 es → GoesOnGood (choice_step c b es)
+choice-good (rules_left called cs) b es h = record { balanced = rules-keep called cs b es h }
+choice-good (facts_left ts cs) b es h = record { balanced = facts-keep ts cs b es h }
+choice-good (branches_left gs) b es h = record { balanced = branch-keeps gs b es h }
+choice-good (alternatives_left name args p alts) b es h = alternatives-good name args p alts b es h
 
 -- a mark of a `catch` that was left counts for nothing at the top
 unmarked : (n : ℕ) (es : List Entry) → IsBalanced (suc n) es → IsBalanced n es
@@ -239,7 +271,7 @@ unmarked n (left ∷ es) h = unmarked (suc n) es h
 fail-good : (es : List Entry) → IsBalanced 0 es → GoesOnGood (fail_step es)
 unfolding fail_step IsBalanced
 fail-good [] h = tt
-fail-good (choice c b ∷ es) h = record { balanced = choice-keeps c b es h }
+fail-good (choice c b ∷ es) h = choice-good c b es h
 fail-good (strict level b ∷ es) h = record { balanced = end-keeps level b es h }
 fail-good (catch_level ball handler b ∷ es) h = record { balanced = h }
 fail-good (left ∷ es) h = record { balanced = unmarked 0 es h }

@@ -6,18 +6,19 @@ use Rattle.pi_terms.specs.Places.{Places, held}
 use Rattle.pi_constraints.specs.State.{State, bindings, next}
 use Rattle.pi_terms.specs.Copy.{copy, new_variables}
 use Rattle.pi_constraints.specs.Unify.{unified}
-use Rattle.pi_core.specs.GoalTree.{GoalTree, truth, GoalTrees}
+use Rattle.pi_core.specs.GoalTree.{GoalTree, truth, call, GoalTrees}
+use Rattle.pi_settling.specs.Choices.{Pending, Alternative, left_by, narrowed_to}
 use Rattle.pi_core.specs.CoreTree.{ClauseTree, leaves_others}
-use Rattle.pi_traces.specs.Trace.{Trace, Done, Raise, one, done, alt, then, first, Out}
+use Rattle.pi_traces.specs.Trace.{Trace, Done, Raise, Tick, one, done, alt, then, first, Out}
 use Rattle.pi_traces.specs.Control.{negated, chosen, collected, counted, caught}
 use Rattle.pi_traces.specs.Depth.{Below}
-use Rattle.pi_traces.specs.Related.{BelowBy, end_by, note_by}
+use Rattle.pi_traces.specs.Related.{BelowBy, deeper_by, end_by, note_by}
 use Rattle.pi_meaning.specs.CoreMeaning.Builtins.{Builtins, BuiltinsOnlyAdd}
 use Rattle.pi_meaning.specs.Shared.Settle.{settled}
 use Rattle.pi_constraints.specs.Evaluation.{Evaluated, evaluated, with_new_variables}
 use Rattle.pi_constraints.specs.HeadMatch.{matched_all_in}
 use Rattle.pi_meaning.specs.Shared.Raise.{raised_with}
-use Rattle.pi_meaning.specs.Shared.Level.{Level, Point, LevelBelow, PointBelow, same_but_level, calls_at}
+use Rattle.pi_meaning.specs.Shared.Level.{Level, lowest, over, lower, ticked, Point, LevelBelow, PointBelow, same_but_level, calls_at}
 use Rattle.pi_meaning.specs.CoreMeaning.Meaning.{Action, draining, with_slot, slot_value, copyable, with_list, meaning, meaning_of_all, meaning_of_any}
 use Rattle.pi_meaning.specs.Shared.Handling.{handled_in, handling}
 use Rattle.pi_meaning.specs.CoreMeaning.Facts.{facts}
@@ -27,11 +28,11 @@ use Rattle.pi_core.specs.declared.core_program.NameSlot.{NameSlot}
 use Rattle.pi_traces.proofs.BelowLemmas.{below-refl}
 use Rattle.pi_traces.proofs.RelatedLemmas.{Same, same, below-by, by-same, by-one, by-alt, by-then, by-then_same, by-first, by-negated, by-chosen, by-collected, by-counted, by-caught}
 use Rattle.pi_meaning.proofs.CoreMeaning.MeaningLemmas.{calls-below, at-points, all-monotone, any-monotone, meaning-below, strict-below}
-use Rattle.pi_meaning.specs.Machine.Configuration.{Frame, more, return, give, Back, Called, Choice, rules_left, facts_left, branches_left, Strict, once_level, not_level, if_level, guard_level, value_level, list_level, number_level, Entry, choice, strict, catch_level, left, Now, going, settling, failed, raising, Config, after_body, telling}
+use Rattle.pi_meaning.specs.Machine.Configuration.{Frame, more, return, give, Back, Called, Choice, rules_left, facts_left, branches_left, alternatives_left, Strict, once_level, not_level, if_level, guard_level, value_level, list_level, number_level, Entry, choice, strict, catch_level, left, Now, going, settling, failed, raising, Config, after_body, telling}
 use Rattle.pi_meaning.specs.Machine.Step.{unresolved}
 use Rattle.pi_meaning.proofs.Machine.EndSteps.{unresolved-raise}
 use Rattle.pi_meaning.proofs.Machine.FactSteps.{behind_fact}
-use Rattle.pi_meaning.specs.Machine.Remaining.{point, valued, continued, run_from, start_of, body_of, rules_trace, facts_trace, choice_trace, level_trace, catch_trace, outside, further, around, now_trace, remaining_at}
+use Rattle.pi_meaning.specs.Machine.Remaining.{point, valued, continued, run_from, start_of, body_of, rules_trace, facts_trace, alternative_tried, alternatives_trace, choice_trace, level_trace, catch_trace, outside, further, around, now_trace, remaining_at}
 
 -- the same trace at a higher level, and maybe more
 abbrev pub Under : Trace Point → Trace Point → Type 0
@@ -135,6 +136,38 @@ applies-under given adds l m h called b c t t' rest rest' a r =
 pub states-under : (f g : State → Trace Point) → ((s : State) → Under (f s) (g s)) → (s r : State) → Same s r → Under (f s) (g r)
 states-under f g h _ _ (same s) = h s
 
+-- ---- labelling
+
+at-level : (l m : Level) → LevelBelow l m → (p q : Point) → PointBelow p q → PointBelow (point l p.slots p.state) (point m q.slots q.state)
+at-level l m h _ _ (same_but_level a e s) = same_but_level h e s
+
+-- an alternative, where the call and what is after it run at higher levels
+alternative-under : (given : Builtins) (adds : BuiltinsOnlyAdd given) (l m k n : Level) → LevelBelow l m → LevelBelow k n → (g : GoalTree) (b : Back) (o : Option State) →
+    Under (alternative_tried given l g b o k) (alternative_tried given m g b o n)
+alternative-under given adds l m k n h i g b None = end_by Done
+alternative-under given adds l m k n h i g b (Some r) =
+    let f : Action = λ q. continued given l b.frames (point l q.slots q.state) in
+    let f' : Action = λ q. continued given m b.frames (point m q.slots q.state) in
+    by-then_same PointBelow (settled b.state r) (settled b.state r) (λ s. then (meaning given g (point k b.slots s)) f) (λ s. then (meaning given g (point n b.slots s)) f') (below-refl (settled b.state r))
+    (λ s. by-then PointBelow PointBelow (meaning given g (point k b.slots s)) (meaning given g (point n b.slots s)) f f'
+    (meaning-below given adds g (point k b.slots s) (point n b.slots s) (same_but_level i b.slots s))
+    (λ p q x. continued-under given adds l m h b.frames (point l p.slots p.state) (point m q.slots q.state) (at-level l m h p q x)))
+
+ticked-under : (given : Builtins) (adds : BuiltinsOnlyAdd given) (l m : Level) → LevelBelow l m → (g : GoalTree) (b : Back) (o : Option State) →
+    Under (ticked (lower l) (alternative_tried given l g b o)) (ticked (lower m) (alternative_tried given m g b o))
+ticked-under given adds (lowest c) m h g b o = deeper_by (ticked (lower m) (alternative_tried given m g b o))
+ticked-under given adds (over c k) (lowest d) h g b o = absurd h
+ticked-under given adds (over c k) (over d n) h g b o = note_by Tick (alternative-under given adds (over c k) (over d n) k n h h.1 g b o)
+
+pub alternatives-under : (given : Builtins) (adds : BuiltinsOnlyAdd given) (l m : Level) → LevelBelow l m → (g : GoalTree) (p : Pending) (alts : List Alternative) (b : Back) →
+    Under (alternatives_trace given l g p alts b) (alternatives_trace given m g p alts b)
+unfolding alternatives_trace
+alternatives-under given adds l m h g p [] b = end_by Done
+alternatives-under given adds l m h g p (a ∷ alts) b =
+    let o : Option State = narrowed_to b.state p.variable (left_by a p.domain) in
+    by-alt PointBelow (ticked (lower l) (alternative_tried given l g b o)) (ticked (lower m) (alternative_tried given m g b o)) (alternatives_trace given l g p alts b) (alternatives_trace given m g p alts b)
+    (ticked-under given adds l m h g b o) (alternatives-under given adds l m h g p alts b)
+
 -- ---- entries
 
 choice-under : (given : Builtins) (adds : BuiltinsOnlyAdd given) (l m : Level) → LevelBelow l m → (c : Choice) (b : Back) → Under (choice_trace given l c b) (choice_trace given m c b)
@@ -146,6 +179,7 @@ choice-under given adds l m h (facts_left ts cs) b =
 choice-under given adds l m h (branches_left gs) b =
     then-under given adds l m h b.frames (meaning_of_any given gs (start_of l b)) (meaning_of_any given gs (start_of m b))
     (at-points (meaning_of_any given gs) (any-monotone given adds gs) (start_of l b) (start_of m b) (same_but_level h b.slots b.state))
+choice-under given adds l m h (alternatives_left name args p alts) b = alternatives-under given adds l m h (call name args) p alts b
 
 value-taken : (l m : Level) → LevelBelow l m → (e : Places) (into : ℕ) (p q : Point) → PointBelow p q →
     Under (one (point l (slice_set e into (held p.slots 0)) p.state)) (one (point m (slice_set e into (held q.slots 0)) q.state))

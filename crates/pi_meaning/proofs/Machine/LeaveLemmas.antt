@@ -23,4 +23,5 @@ levels-leave-nothing e s above b below = record {
   last_rule = λ called c. no-rule-left (leaves_others called.function c) called b below;
   caught = λ ball handler. refl;
   last_branch = λ g. refl;
+  last_alternative = λ name args p. refl;
 }

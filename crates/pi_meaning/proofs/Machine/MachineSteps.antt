@@ -15,7 +15,7 @@ use Rattle.pi_meaning.specs.CoreMeaning.Builtins.{Builtins}
 use Rattle.pi_meaning.specs.CoreMeaning.Instances.{core_setting, built_later, whole}
 use Rattle.pi_meaning.specs.Shared.Effects.{predicate_effect, value_effect}
 use Rattle.pi_meaning.specs.Shared.Names.{is_later_predicate, is_later_function, is_resource, is_call}
-use Rattle.pi_meaning.specs.Shared.Calls.{unknown_name, function_given}
+use Rattle.pi_meaning.specs.Shared.Calls.{function_given}
 use Rattle.pi_meaning.specs.Shared.Within.{Within, a_query, a_body, resource_left}
 use Rattle.pi_constraints.specs.Evaluation.{Evaluated, evaluated, EvaluatedAll, evaluated_all, with_new_variables}
 use Rattle.pi_meaning.specs.Shared.Level.{Level, Applied, or_called, or_applied}
@@ -25,13 +25,13 @@ use Rattle.pi_meaning.specs.CoreMeaning.Rules.{call_run, application_run, calls_
 use Rattle.pi_meaning.specs.CoreMeaning.Run.{answered_with}
 use Rattle.pi_core.specs.declared.core_program.NameSlot.{NameSlot}
 use Rattle.pi_meaning.proofs.Shared.CallLemmas.{built-later-adds, whole-adds}
-use Rattle.pi_meaning.specs.Machine.Configuration.{Frame, Back, once_level, not_level, if_level, list_level, number_level, Entry, choice, strict, catch_level, left, Now, going, settling, failed, raising, Config, config, behind, telling}
+use Rattle.pi_meaning.specs.Machine.Configuration.{Frame, Back, Choice, rules_left, facts_left, branches_left, alternatives_left, once_level, not_level, if_level, list_level, number_level, Entry, choice, strict, catch_level, left, Now, going, settling, failed, raising, Config, config, behind, telling}
 use Rattle.pi_settling.specs.Settle.{Settlement, answer_with}
 use Rattle.pi_settling.specs.Settled.{loaded}
 use Rattle.pi_meaning.specs.Shared.Settle.{settlement, settled}
 use Rattle.pi_meaning.proofs.Shared.SettleLemmas.{then-loaded}
 use Rattle.pi_meaning.specs.Machine.Remaining.{run_from, point, continued, level_trace, catch_trace, around, now_trace, remaining_at}
-use Rattle.pi_meaning.specs.Machine.Step.{silently, back_to, inside, branch, frame_step, strict_step, leave, choice_step, end_step, handler_step, below_left, predicate_step, effect_step, function_step, goal_step, Open, none_open, strict_open, catch_open, newest_open, fits, told_step, answer_step, fail_step, raise_step, now_step, step, done_now, value_step, given_now, unknown_ball, later_step, name_step, resource_effect, later_value, other_value, with_rest, name_call, left_now, loaded_step, settle_step}
+use Rattle.pi_meaning.specs.Machine.Step.{silently, back_to, inside, branch, try_rules, try_facts, frame_step, strict_step, leave, choice_step, end_step, handler_step, below_left, predicate_step, effect_step, function_step, goal_step, Open, none_open, strict_open, catch_open, newest_open, fits, told_step, answer_step, fail_step, raise_step, now_step, step, done_now, value_step, given_now, later_step, name_step, resource_effect, later_value, other_value, with_rest, name_call, left_now, loaded_step, settle_step}
 use Rattle.pi_meaning.specs.Machine.Shape.{IsBalanced, IsGood}
 use Rattle.pi_meaning.specs.Machine.Built.{AreOfRules}
 use Rattle.pi_meaning.specs.Machine.Laws.{Comes}
@@ -40,10 +40,11 @@ use Rattle.pi_meaning.proofs.Machine.StackLemmas.{IsClosed, IsFound, newest-foun
 use Rattle.pi_meaning.proofs.Machine.RunLemmas.{CallsAre, calls-are, remains}
 use Rattle.pi_meaning.proofs.Machine.GoalSteps.{Is, goal-does, answer-is, truth-goes_on, branch-is, level-begins, catch-begins, list-begins, number-begins, effect-goes_on, given-goes_on, left-goes_on, frame-steps}
 use Rattle.pi_meaning.proofs.Machine.AnswerSteps.{strict-answer, catch-answer, query-answer, told-answer, told-too_large}
-use Rattle.pi_meaning.proofs.Machine.EndSteps.{choice-ends, strict-ends, catch-ends, left-ends, choice-raises, strict-raises, catch-raises, left-raises}
+use Rattle.pi_meaning.proofs.Machine.EndSteps.{rules-end, facts-end, branches-end, alternatives-end, strict-ends, catch-ends, left-ends, choice-raises, strict-raises, catch-raises, left-raises}
 use Rattle.pi_meaning.proofs.Machine.CallSteps.{tick-comes, predicate-comes, function-comes}
-use Rattle.pi_meaning.proofs.Machine.NamesGiven.{does-effect, does-later, does-nothing, gives-value, gives-resource, gives-later, gives-nothing}
+use Rattle.pi_meaning.proofs.Machine.NamesGiven.{does-effect, does-nothing, gives-value, gives-resource, gives-later, gives-nothing}
 use Rattle.pi_meaning.proofs.Machine.TermSteps.{call-comes}
+use Rattle.pi_meaning.proofs.Machine.LabelSteps.{solve-comes, alternatives-come}
 use Rattle.pi_effects.specs.Effect.{FunctionEffect, Effect}
 
 -- what goals run with
@@ -102,12 +103,8 @@ later-step-comes : (v : View) (preds : List PredTree) (names : List NameSlot) (n
     AreOfRules preds → IsBalanced 0 es →
     let all : EvaluatedAll = evaluated_all (trees_of args) e s in
     is_call name (tree_count all.trees) ≡ false → predicate_effect name all.trees all.state ≡ None → (later : Bool) → is_later_predicate name (tree_count all.trees) ≡ later →
-    Comes v preds names (config (going (goal (call name args) gs) e s k) es) (later_step later preds (name_call name all) (behind gs k) es)
-unfolding then now_trace
-later-step-comes v preds names name args gs e s k es sound b other none true is =
-    let all : EvaluatedAll = evaluated_all (trees_of args) e s in
-    given-step-comes v preds names name args gs e s k es (unknown_name name (tree_count all.trees)) (λ l. does-later v preds l name all.trees all.state other none is)
-    (config (raising (unknown_ball name (tree_count all.trees))) es) (λ l. refl)
+    Comes v preds names (config (going (goal (call name args) gs) e s k) es) (later_step later preds (name_call name args all) (with_rest gs k es))
+later-step-comes v preds names name args gs e s k es sound b other none true is = solve-comes v preds names name args gs e s k es other none is
 later-step-comes v preds names name args gs e s k es sound b other none false is =
     let all : EvaluatedAll = evaluated_all (trees_of args) e s in
     predicate-step-comes v preds names name args gs e s k es sound b (does-nothing v preds name all.trees all.state other none is) (find_pred false name (tree_count all.trees) preds) refl
@@ -116,7 +113,7 @@ effect-step-comes : (v : View) (preds : List PredTree) (names : List NameSlot) (
     AreOfRules preds → IsBalanced 0 es →
     let all : EvaluatedAll = evaluated_all (trees_of args) e s in
     is_call name (tree_count all.trees) ≡ false → (o : Option Effect) → predicate_effect name all.trees all.state ≡ o →
-    Comes v preds names (config (going (goal (call name args) gs) e s k) es) (effect_step v o preds (name_call name all) (with_rest gs k es))
+    Comes v preds names (config (going (goal (call name args) gs) e s k) es) (effect_step v o preds (name_call name args all) (with_rest gs k es))
 effect-step-comes v preds names name args gs e s k es sound b other None f =
     let all : EvaluatedAll = evaluated_all (trees_of args) e s in
     later-step-comes v preds names name args gs e s k es sound b other f (is_later_predicate name (tree_count all.trees)) refl
@@ -128,7 +125,7 @@ effect-step-comes v preds names name args gs e s k es sound b other (Some d) f =
 name-step-comes : (v : View) (preds : List PredTree) (names : List NameSlot) (name : List ℕ) (args : List Tree) (gs : GoalTrees) (e : Places) (s : State) (k : List Frame) (es : List Entry) →
     AreOfRules preds → IsBalanced 0 es →
     let all : EvaluatedAll = evaluated_all (trees_of args) e s in
-    (called : Bool) → is_call name (tree_count all.trees) ≡ called → Comes v preds names (config (going (goal (call name args) gs) e s k) es) (name_step called v preds (name_call name all) (with_rest gs k es))
+    (called : Bool) → is_call name (tree_count all.trees) ≡ called → Comes v preds names (config (going (goal (call name args) gs) e s k) es) (name_step called v preds (name_call name args all) (with_rest gs k es))
 name-step-comes v preds names name args gs e s k es sound b true is = call-comes v preds names name args gs e s k es is
 name-step-comes v preds names name args gs e s k es sound b false is =
     let all : EvaluatedAll = evaluated_all (trees_of args) e s in
@@ -165,7 +162,7 @@ later-value-comes : (v : View) (preds : List PredTree) (names : List NameSlot) (
     IsBalanced 0 es →
     let all : EvaluatedAll = evaluated_all (trees_of args) e s in
     value_effect name all.trees all.state ≡ None → is_resource name (tree_count all.trees) ≡ false → (later : Bool) → is_later_function name (tree_count all.trees) ≡ later →
-    Comes v preds names (config (going (goal (apply name args into) gs) e s k) es) (later_value later preds (name_call name all) into (behind gs k) es)
+    Comes v preds names (config (going (goal (apply name args into) gs) e s k) es) (later_value later preds (name_call name args all) into (behind gs k) es)
 unfolding then now_trace
 later-value-comes v preds names name args into gs e s k es b none other true is =
     let all : EvaluatedAll = evaluated_all (trees_of args) e s in
@@ -191,7 +188,7 @@ other-value-comes : (v : View) (preds : List PredTree) (names : List NameSlot) (
     IsBalanced 0 es →
     let all : EvaluatedAll = evaluated_all (trees_of args) e s in
     value_effect name all.trees all.state ≡ None → (resource : Bool) → is_resource name (tree_count all.trees) ≡ resource →
-    Comes v preds names (config (going (goal (apply name args into) gs) e s k) es) (other_value resource v preds (name_call name all) into (with_rest gs k es))
+    Comes v preds names (config (going (goal (apply name args into) gs) e s k) es) (other_value resource v preds (name_call name args all) into (with_rest gs k es))
 other-value-comes v preds names name args into gs e s k es b none true is =
     let all : EvaluatedAll = evaluated_all (trees_of args) e s in
     effect-value-comes v preds names name args into gs e s k es (resource_effect v.within all.state)
@@ -204,7 +201,7 @@ value-step-comes : (v : View) (preds : List PredTree) (names : List NameSlot) (n
     IsBalanced 0 es →
     let all : EvaluatedAll = evaluated_all (trees_of args) e s in
     (o : Option FunctionEffect) → value_effect name all.trees all.state ≡ o →
-    Comes v preds names (config (going (goal (apply name args into) gs) e s k) es) (value_step v o preds (name_call name all) into (with_rest gs k es))
+    Comes v preds names (config (going (goal (apply name args into) gs) e s k) es) (value_step v o preds (name_call name args all) into (with_rest gs k es))
 value-step-comes v preds names name args into gs e s k es b None f =
     let all : EvaluatedAll = evaluated_all (trees_of args) e s in
     other-value-comes v preds names name args into gs e s k es b f (is_resource name (tree_count all.trees)) refl
@@ -294,16 +291,27 @@ answer-comes v preds names e s es b (catch_open above ball handler back below) h
 
 -- ---- ends
 
-fail-comes : (v : View) (preds : List PredTree) (names : List NameSlot) (es : List Entry) → Comes v preds names (config failed es) (fail_step es)
-unfolding fail_step remaining_at now_trace around then
-fail-comes v preds names [] = λ d. refl
-fail-comes v preds names (choice c b ∷ es) =
-    silent v preds names failed (choice c b ∷ es) (choice_step c b es) (λ d. choice-ends (language v preds) (level_at (language v preds) preds d) c b es)
-fail-comes v preds names (strict level b ∷ es) =
+choice-comes : (v : View) (preds : List PredTree) (names : List NameSlot) (c : Choice) (b : Back) (es : List Entry) → IsBalanced 0 es → Comes v preds names (config failed (choice c b ∷ es)) (choice_step c b es)
+unfolding now_trace
+choice-comes v preds names (rules_left called cs) b es h =
+    silent v preds names failed (choice (rules_left called cs) b ∷ es) (try_rules called cs b es) (λ d. rules-end (language v preds) (level_at (language v preds) preds d) called cs b es)
+choice-comes v preds names (facts_left ts cs) b es h =
+    silent v preds names failed (choice (facts_left ts cs) b ∷ es) (try_facts ts cs b es) (λ d. facts-end (language v preds) (level_at (language v preds) preds d) ts cs b es)
+choice-comes v preds names (branches_left gs) b es h =
+    silent v preds names failed (choice (branches_left gs) b ∷ es) (branch gs b es) (λ d. branches-end (language v preds) (level_at (language v preds) preds d) gs b es)
+choice-comes v preds names (alternatives_left name args p []) b es h =
+    silent v preds names failed (choice (alternatives_left name args p []) b ∷ es) (config failed es) (λ d. alternatives-end (language v preds) (level_at (language v preds) preds d) name args p b es)
+choice-comes v preds names (alternatives_left name args p (a ∷ alts)) b es h = alternatives-come v preds names name args p a alts b es h
+
+fail-comes : (v : View) (preds : List PredTree) (names : List NameSlot) (es : List Entry) → IsBalanced 0 es → Comes v preds names (config failed es) (fail_step es)
+unfolding fail_step remaining_at now_trace around then IsBalanced
+fail-comes v preds names [] h = λ d. refl
+fail-comes v preds names (choice c b ∷ es) h = choice-comes v preds names c b es h
+fail-comes v preds names (strict level b ∷ es) h =
     silent v preds names failed (strict level b ∷ es) (end_step level b es) (λ d. strict-ends (language v preds) (level_at (language v preds) preds d) level b es)
-fail-comes v preds names (catch_level ball handler b ∷ es) =
+fail-comes v preds names (catch_level ball handler b ∷ es) h =
     silent v preds names failed (catch_level ball handler b ∷ es) (config failed es) (λ d. catch-ends (language v preds) (level_at (language v preds) preds d) ball handler b es)
-fail-comes v preds names (left ∷ es) =
+fail-comes v preds names (left ∷ es) h =
     silent v preds names failed (left ∷ es) (config failed es) (λ d. left-ends (language v preds) (level_at (language v preds) preds d) es)
 
 raise-comes : (v : View) (preds : List PredTree) (names : List NameSlot) (raised : Tree) (es : List Entry) → IsBalanced 0 es →
@@ -361,7 +369,7 @@ now-comes v preds names (going no_goals e s (f ∷ k)) es sound b =
     (λ d. frame-steps (language v preds) preds (level_at (language v preds) preds d) (calls-are (language v preds) preds d) f e s k es)
 now-comes v preds names (settling before s gs e k) es sound b = settling-comes v preds names before s gs e k es b
 now-comes v preds names (telling text gs e s k) es sound b = λ d. telling-comes (language v preds) (level_at (language v preds) preds d) names text gs e s k es b
-now-comes v preds names failed es sound b = fail-comes v preds names es
+now-comes v preds names failed es sound b = fail-comes v preds names es b
 now-comes v preds names (raising raised) es sound b = raise-comes v preds names raised es b
 
 pub step-comes : (v : View) (preds : List PredTree) (names : List NameSlot) (c : Config) → AreOfRules preds → IsGood c → Comes v preds names c (step v preds names c)

@@ -3,14 +3,14 @@ use Rattle.std.proofs.Common.{◌≡◌, ℕ, ◌||◌, Bool, true, false, cond,
 use Rattle.std.specs.Prelude.{Option, Some, None}
 use Rattle.pi_core.specs.GoalTree.{GoalTree, call}
 use Rattle.pi_core.specs.CoreTree.{PredTree, find_pred}
-use Rattle.pi_meaning.specs.Shared.Effects.{is_effect_name}
+use Rattle.pi_meaning.specs.Shared.Effects.{is_built_name}
 use Rattle.pi_meaning.specs.Shared.Names.{is_catch, is_call}
 use Rattle.pi_meaning.specs.CoreMeaning.Instances.{is_called_by_name}
 use Rattle.pi_meaning.specs.Machine.NamedGoals.{slots_from, catch_of_slots, call_of_slots, goal_by_name}
 
 -- a predicate that is built or that the program defines
 abbrev pub is_there : List PredTree → List ℕ → ℕ → Bool
-is_there preds name k = is_effect_name name k || is_called_by_name (find_pred false name k preds)
+is_there preds name k = is_built_name name k || is_called_by_name (find_pred false name k preds)
 
 pub data NamedBy (preds : List PredTree) (name : List ℕ) (k : ℕ) : GoalTree → Type 0 where
   by_catch : is_catch name k ≡ true → NamedBy preds name k catch_of_slots

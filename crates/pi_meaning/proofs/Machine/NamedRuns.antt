@@ -13,7 +13,9 @@ use Rattle.pi_core.specs.GoalTree.{GoalTree, tick, call, seq, catch, GoalTrees, 
 use Rattle.pi_core.specs.CoreTree.{PredTree}
 use Rattle.pi_effects.specs.BuiltIns.{is_predicate}
 use Rattle.pi_settling.specs.Goals.{is_constraint_goal}
+use Rattle.pi_settling.specs.SolveCalls.{is_solve}
 use Rattle.pi_meaning.proofs.Shared.EffectNames.{goal-later}
+use Rattle.pi_meaning.proofs.Machine.SolveNames.{solve-later}
 use Rattle.pi_effects.specs.Items.{each_tree}
 use Rattle.pi_traces.specs.Trace.{Trace, end, note, Raise, Deep, Tick, one, then}
 use Rattle.pi_traces.specs.Control.{caught}
@@ -71,7 +73,7 @@ slots-filled (tree t ts) front =
     (slots-filled ts (front ++ Some t ∷ []))))
 
 -- the arguments are what the first slots hold
-arguments-held : (ts : Trees) (s : State) → evaluated_all (trees_of (slots_from 0 (tree_count ts))) (in_places ts) s ≡ record { trees = ts; slots = in_places ts; state = s }
+pub arguments-held : (ts : Trees) (s : State) → evaluated_all (trees_of (slots_from 0 (tree_count ts))) (in_places ts) s ≡ record { trees = ts; slots = in_places ts; state = s }
 arguments-held ts s = all-filled-again (in_places ts) (trees_of (slots_from 0 (tree_count ts))) ts (slots-filled ts []) s
 
 -- ---- answers that leave a state
@@ -89,7 +91,7 @@ states-left l e t u b =
 
 -- ---- a goal by a name
 
-slot-ran : (v : View) (preds : List PredTree) (d : ℕ) (name : List ℕ) (args : List Tree) (ts : Trees) (e : Places) (s : State) →
+pub slot-ran : (v : View) (preds : List PredTree) (d : ℕ) (name : List ℕ) (args : List Tree) (ts : Trees) (e : Places) (s : State) →
     let given : Builtins = whole v built_later preds in
     let l : Level = level_at given preds d in
     evaluated_all (trees_of args) e s ≡ record { trees = ts; slots = e; state = s } →
@@ -317,11 +319,13 @@ runs-catch v preds zero name ts s is =
 runs-catch v preds (suc d) name ts s is = runs-three v preds d name ts s (is-three name (tree_count ts) is) is
 
 -- any other name, that isn't a planner call's
-known-there : (table posts later own : Bool) → (posts ≡ true → later ≡ true) → ((table || posts) || own) ≡ true → (table || (later || own)) ≡ true
-known-there true posts later own f h = refl
-known-there false posts true own f h = refl
-known-there false true false own f h = let e : false ≡ true = f refl in absurd cc
-known-there false false false own f h = h
+known-there : (table posts labels later own : Bool) → (posts ≡ true → later ≡ true) → (labels ≡ true → later ≡ true) → (((table || posts) || labels) || own) ≡ true →
+    (table || (later || own)) ≡ true
+known-there true posts labels later own f g h = refl
+known-there false posts labels true own f g h = refl
+known-there false true labels false own f g h = let e : false ≡ true = f refl in absurd cc
+known-there false false true false own f g h = let e : false ≡ true = g refl in absurd cc
+known-there false false false false own f g h = h
 
 pub name-known : (v : View) (preds : List PredTree) (d : ℕ) (name : List ℕ) (ts : Trees) (s : State) → is_catch name (tree_count ts) ≡ false → is_call name (tree_count ts) ≡ false →
     called_name v preds d name ts s ≡ known_called (setting v preds) (level_at (whole v built_later preds) preds d) name ts s
@@ -351,8 +355,8 @@ runs-name v preds d name ts s other no_catch no_call there =
     let t : Trace State = predicate_called (setting v preds) l name ts s in
     let same : called_name v preds d name ts s ≡ t =
     name-known v preds d name ts s no_catch no_call
-    ∙ not-planner v preds l name ts s other true (known-there (is_predicate name (tree_count ts)) (is_constraint_goal name (tree_count ts)) (is_later_predicate name (tree_count ts)) (is_defined preds name (tree_count ts))
-    (goal-later name (tree_count ts)) there) in
+    ∙ not-planner v preds l name ts s other true (known-there (is_predicate name (tree_count ts)) (is_constraint_goal name (tree_count ts)) (is_solve name (tree_count ts)) (is_later_predicate name (tree_count ts)) (is_defined preds name (tree_count ts))
+    (goal-later name (tree_count ts)) (solve-later name (tree_count ts)) there) in
     subst (λ u. BelowBy Leaves u (called_name v preds d name ts s))
     (sym (slot-ran v preds d name (slots_from 0 (tree_count ts)) ts (in_places ts) s (arguments-held ts s)
     ∙ ap (λ u. then u (λ r. one (point l (in_places ts) r))) (named-called v preds l name ts s no_call)))

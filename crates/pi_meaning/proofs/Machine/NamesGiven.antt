@@ -17,8 +17,8 @@ use Rattle.pi_meaning.specs.Shared.Effects.{predicate_effect, value_effect}
 use Rattle.pi_meaning.specs.Shared.Names.{is_later_predicate, is_later_function, is_resource, is_call}
 use Rattle.pi_meaning.specs.Shared.Builtin.{settled_effect, function_trace}
 use Rattle.pi_meaning.specs.Shared.Given.{Setting}
-use Rattle.pi_meaning.specs.Shared.Calls.{unknown_name, predicate_given, first_called, function_given}
-use Rattle.pi_meaning.specs.CoreMeaning.Instances.{core_setting, built_later, whole}
+use Rattle.pi_meaning.specs.Shared.Calls.{predicate_given, first_called, function_given}
+use Rattle.pi_meaning.specs.CoreMeaning.Instances.{core_setting, built_later, solve_or_unknown, whole}
 use Rattle.pi_meaning.proofs.Shared.EffectNames.{goals-listed, domains-listed, goal-later, domain-later, domain-no_resource}
 
 -- ---- predicates
@@ -36,16 +36,16 @@ built-given f u None (Some x) false h = let e : false ≡ true = h refl in absur
 
 given-by : (v : View) (preds : List PredTree) (l : Level) (name : List ℕ) (ts : Trees) (s : State) (o : Option Effect) → predicate_effect name ts s ≡ o →
     (later : Bool) → is_later_predicate name (tree_count ts) ≡ later →
-    predicate_given (setting v preds) l name ts s ≡ option_or (option_map (settled_effect v s) o) (cond later (Some (unknown_name name (tree_count ts))) None)
+    predicate_given (setting v preds) l name ts s ≡ option_or (option_map (settled_effect v s) o) (cond later (Some (solve_or_unknown l name ts s)) None)
 unfolding predicate_given
 given-by v preds l name ts s o built later is =
-    built-given (settled_effect v s) (unknown_name name (tree_count ts)) (built_in_predicate name ts s) (constraint_effect name ts s) (is_later_predicate name (tree_count ts))
+    built-given (settled_effect v s) (solve_or_unknown l name ts s) (built_in_predicate name ts s) (constraint_effect name ts s) (is_later_predicate name (tree_count ts))
     (λ h. goal-later name (tree_count ts) (sym (goals-listed name ts s) ∙ h))
-    ∙ (ap (λ x. option_or (option_map (settled_effect v s) x) (cond (is_later_predicate name (tree_count ts)) (Some (unknown_name name (tree_count ts))) None)) built
-    ∙ ap (λ b. option_or (option_map (settled_effect v s) o) (cond b (Some (unknown_name name (tree_count ts))) None)) is)
+    ∙ (ap (λ x. option_or (option_map (settled_effect v s) x) (cond (is_later_predicate name (tree_count ts)) (Some (solve_or_unknown l name ts s)) None)) built
+    ∙ ap (λ b. option_or (option_map (settled_effect v s) o) (cond b (Some (solve_or_unknown l name ts s)) None)) is)
 
 pub later-given : (v : View) (preds : List PredTree) (l : Level) (name : List ℕ) (ts : Trees) (s : State) → predicate_effect name ts s ≡ None →
-    is_later_predicate name (tree_count ts) ≡ true → predicate_given (setting v preds) l name ts s ≡ Some (unknown_name name (tree_count ts))
+    is_later_predicate name (tree_count ts) ≡ true → predicate_given (setting v preds) l name ts s ≡ Some (solve_or_unknown l name ts s)
 later-given v preds l name ts s built later = given-by v preds l name ts s None built true later
 
 -- a name that isn't `call`
@@ -59,7 +59,7 @@ does-effect v preds l name ts s e other built =
     not-call v preds l name ts s other ∙ given-by v preds l name ts s (Some e) built (is_later_predicate name (tree_count ts)) refl
 
 pub does-later : (v : View) (preds : List PredTree) (l : Level) (name : List ℕ) (ts : Trees) (s : State) → is_call name (tree_count ts) ≡ false →
-    predicate_effect name ts s ≡ None → is_later_predicate name (tree_count ts) ≡ true → (whole v built_later preds).predicate l name ts s ≡ Some (unknown_name name (tree_count ts))
+    predicate_effect name ts s ≡ None → is_later_predicate name (tree_count ts) ≡ true → (whole v built_later preds).predicate l name ts s ≡ Some (solve_or_unknown l name ts s)
 does-later v preds l name ts s other built later = not-call v preds l name ts s other ∙ later-given v preds l name ts s built later
 
 pub does-nothing : (v : View) (preds : List PredTree) (name : List ℕ) (ts : Trees) (s : State) → is_call name (tree_count ts) ≡ false →

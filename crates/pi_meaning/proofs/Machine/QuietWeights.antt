@@ -4,8 +4,8 @@ use Rattle.std.specs.Prelude.{Option, Some, None, Contains, not as inverse}
 use Rattle.pi_core.specs.GoalTree.{GoalTree, truth, fail, tick, call, apply, seq, alternatives, if_else, not, once, collect, count, catch, GoalTrees, no_goals, goal}
 use Rattle.pi_core.specs.CoreTree.{ClauseTree, PredTree, find_pred}
 use Rattle.pi_effects.specs.BuiltIns.{is_predicate}
-use Rattle.pi_meaning.specs.Shared.Effects.{is_effect_name}
-use Rattle.pi_meaning.proofs.Shared.EffectNames.{effect-given}
+use Rattle.pi_meaning.specs.Shared.Effects.{is_built_name}
+use Rattle.pi_meaning.proofs.Machine.SolveNames.{built-given}
 use Rattle.pi_meaning.specs.Shared.Names.{is_call, is_later_predicate, is_given}
 use Rattle.pi_meaning.specs.CoreMeaning.Instances.{is_called_by_name}
 use Rattle.pi_meaning.specs.CoreMeaning.Quiet.{Callee, Passes, PassesAll, PassesAny, Reaches, ReachesInAll, ReachesInAny, ReachesFrom, IsQuiet, TicksBetween}
@@ -238,7 +238,7 @@ pub there-weighs : (preds : List PredTree) (n : ℕ) (name : List ℕ) (k r : �
 unfolding calls_within
 there-weighs preds zero name k r there = refl
 there-weighs preds (suc n) name k r there =
-    elim (either (is_effect_name name k) (is_called_by_name (find_pred false name k preds)) there) as (λ w. calls_within preds (suc n) false name k r ≡ 0) [
-      | inl built ↦ ap (λ b. cond b 0 (found_weight (calls_within preds n) false (find_pred false name k preds) r)) (given-built (is_call name k) (is_predicate name k || is_later_predicate name k) (effect-given name k built))
+    elim (either (is_built_name name k) (is_called_by_name (find_pred false name k preds)) there) as (λ w. calls_within preds (suc n) false name k r ≡ 0) [
+      | inl built ↦ ap (λ b. cond b 0 (found_weight (calls_within preds n) false (find_pred false name k preds) r)) (given-built (is_call name k) (is_predicate name k || is_later_predicate name k) (built-given name k built))
       | inr named ↦ unless-zero (is_given false name k) _ (named-found (calls_within preds n) (find_pred false name k preds) r named)
     ]

@@ -19,10 +19,10 @@ use Rattle.pi_traces.proofs.BelowLemmas.{below-events}
 use Rattle.pi_traces.proofs.CutLemmas.{cut-below, cut-emit, cut-all, cut-at_tick}
 use Rattle.pi_meaning.proofs.CoreMeaning.QueryLemmas.{run-deeper}
 use Rattle.pi_meaning.proofs.Shared.CallLemmas.{built-later-adds, whole-adds}
-use Rattle.pi_meaning.specs.Machine.Configuration.{Frame, Entry, choice, strict, catch_level, left, Now, going, settling, failed, raising, Config, config, behind, telling}
+use Rattle.pi_meaning.specs.Machine.Configuration.{Frame, Back, Choice, rules_left, facts_left, branches_left, alternatives_left, Entry, choice, strict, catch_level, left, Now, going, settling, failed, raising, Config, config, behind, telling}
 use Rattle.pi_meaning.specs.Shared.Settle.{settlement}
 use Rattle.pi_meaning.specs.Machine.Remaining.{remaining}
-use Rattle.pi_meaning.specs.Machine.Step.{Outcome, silently, with_tick, quietly, answering, ending, call_step, predicate_step, effect_step, function_step, value_step, goal_step, Open, none_open, strict_open, catch_open, newest_open, fits, told_step, answer_step, fail_step, raise_step, now_step, step, start, loading, writing, deeper, left_now, loaded_step, later_step, name_step, later_value, other_value, with_rest, name_call}
+use Rattle.pi_meaning.specs.Machine.Step.{Outcome, silently, with_tick, quietly, answering, ending, call_step, predicate_step, effect_step, function_step, value_step, goal_step, Open, none_open, strict_open, catch_open, newest_open, fits, told_step, answer_step, choice_step, fail_step, raise_step, now_step, step, start, loading, writing, deeper, left_now, loaded_step, later_step, name_step, later_value, other_value, with_rest, name_call}
 use Rattle.pi_meaning.specs.Machine.Shape.{IsGood}
 use Rattle.pi_meaning.specs.Machine.Built.{AreOfRules}
 use Rattle.pi_meaning.specs.Machine.Laws.{Comes, GoesOnGood}
@@ -56,34 +56,35 @@ predicate-proper : (o : Option PredTree) (all : EvaluatedAll) (k : List Frame) (
 predicate-proper None all k es = tt
 predicate-proper (Some pred) all k es = call-proper pred.quiet _
 
-later-proper : (later : Bool) (preds : List PredTree) (name : List ℕ) (all : EvaluatedAll) (k : List Frame) (es : List Entry) → IsProper (later_step later preds (name_call name all) k es)
-later-proper true preds name all k es = tt
-later-proper false preds name all k es = predicate-proper (find_pred false name (tree_count all.trees) preds) all k es
+later-proper : (later : Bool) (preds : List PredTree) (name : List ℕ) (args : List Tree) (all : EvaluatedAll) (gs : GoalTrees) (k : List Frame) (es : List Entry) →
+    IsProper (later_step later preds (name_call name args all) (with_rest gs k es))
+later-proper true preds name args all gs k es = tt
+later-proper false preds name args all gs k es = predicate-proper (find_pred false name (tree_count all.trees) preds) all (behind gs k) es
 
-effect-proper : (v : View) (o : Option Effect) (preds : List PredTree) (name : List ℕ) (all : EvaluatedAll) (gs : GoalTrees) (k : List Frame) (es : List Entry) → IsProper (effect_step v o preds (name_call name all) (with_rest gs k es))
-effect-proper v None preds name all gs k es = later-proper (is_later_predicate name (tree_count all.trees)) preds name all (behind gs k) es
-effect-proper v (Some d) preds name all gs k es = tt
+effect-proper : (v : View) (o : Option Effect) (preds : List PredTree) (name : List ℕ) (args : List Tree) (all : EvaluatedAll) (gs : GoalTrees) (k : List Frame) (es : List Entry) → IsProper (effect_step v o preds (name_call name args all) (with_rest gs k es))
+effect-proper v None preds name args all gs k es = later-proper (is_later_predicate name (tree_count all.trees)) preds name args all gs k es
+effect-proper v (Some d) preds name args all gs k es = tt
 
-name-proper : (called : Bool) (v : View) (preds : List PredTree) (name : List ℕ) (all : EvaluatedAll) (gs : GoalTrees) (k : List Frame) (es : List Entry) → IsProper (name_step called v preds (name_call name all) (with_rest gs k es))
-name-proper true v preds name all gs k es = tt
-name-proper false v preds name all gs k es = effect-proper v (predicate_effect name all.trees all.state) preds name all gs k es
+name-proper : (called : Bool) (v : View) (preds : List PredTree) (name : List ℕ) (args : List Tree) (all : EvaluatedAll) (gs : GoalTrees) (k : List Frame) (es : List Entry) → IsProper (name_step called v preds (name_call name args all) (with_rest gs k es))
+name-proper true v preds name args all gs k es = tt
+name-proper false v preds name args all gs k es = effect-proper v (predicate_effect name all.trees all.state) preds name args all gs k es
 
 function-proper : (o : Option PredTree) (all : EvaluatedAll) (into : ℕ) (k : List Frame) (es : List Entry) → IsProper (function_step o all into k es)
 function-proper None all into k es = tt
 function-proper (Some pred) all into k es = call-proper pred.quiet _
 
-later-value-proper : (later : Bool) (preds : List PredTree) (name : List ℕ) (all : EvaluatedAll) (into : ℕ) (k : List Frame) (es : List Entry) → IsProper (later_value later preds (name_call name all) into k es)
-later-value-proper true preds name all into k es = tt
-later-value-proper false preds name all into k es = function-proper (find_pred true name (tree_count all.trees) preds) all into k es
+later-value-proper : (later : Bool) (preds : List PredTree) (name : List ℕ) (args : List Tree) (all : EvaluatedAll) (into : ℕ) (k : List Frame) (es : List Entry) → IsProper (later_value later preds (name_call name args all) into k es)
+later-value-proper true preds name args all into k es = tt
+later-value-proper false preds name args all into k es = function-proper (find_pred true name (tree_count all.trees) preds) all into k es
 
-other-value-proper : (resource : Bool) (v : View) (preds : List PredTree) (name : List ℕ) (all : EvaluatedAll) (into : ℕ) (gs : GoalTrees) (k : List Frame) (es : List Entry) →
-    IsProper (other_value resource v preds (name_call name all) into (with_rest gs k es))
-other-value-proper true v preds name all into gs k es = tt
-other-value-proper false v preds name all into gs k es = later-value-proper (is_later_function name (tree_count all.trees)) preds name all into (behind gs k) es
+other-value-proper : (resource : Bool) (v : View) (preds : List PredTree) (name : List ℕ) (args : List Tree) (all : EvaluatedAll) (into : ℕ) (gs : GoalTrees) (k : List Frame) (es : List Entry) →
+    IsProper (other_value resource v preds (name_call name args all) into (with_rest gs k es))
+other-value-proper true v preds name args all into gs k es = tt
+other-value-proper false v preds name args all into gs k es = later-value-proper (is_later_function name (tree_count all.trees)) preds name args all into (behind gs k) es
 
-value-proper : (v : View) (o : Option FunctionEffect) (preds : List PredTree) (name : List ℕ) (all : EvaluatedAll) (into : ℕ) (gs : GoalTrees) (k : List Frame) (es : List Entry) → IsProper (value_step v o preds (name_call name all) into (with_rest gs k es))
-value-proper v None preds name all into gs k es = other-value-proper (is_resource name (tree_count all.trees)) v preds name all into gs k es
-value-proper v (Some d) preds name all into gs k es = tt
+value-proper : (v : View) (o : Option FunctionEffect) (preds : List PredTree) (name : List ℕ) (args : List Tree) (all : EvaluatedAll) (into : ℕ) (gs : GoalTrees) (k : List Frame) (es : List Entry) → IsProper (value_step v o preds (name_call name args all) into (with_rest gs k es))
+value-proper v None preds name args all into gs k es = other-value-proper (is_resource name (tree_count all.trees)) v preds name args all into gs k es
+value-proper v (Some d) preds name args all into gs k es = tt
 
 goal-proper : (v : View) (preds : List PredTree) (g : GoalTree) (gs : GoalTrees) (e : Places) (s : State) (k : List Frame) (es : List Entry) → IsProper (goal_step v preds g e s (with_rest gs k es))
 unfolding goal_step
@@ -91,9 +92,9 @@ goal-proper v preds truth gs e s k es = tt
 goal-proper v preds fail gs e s k es = tt
 goal-proper v preds tick gs e s k es = tt
 goal-proper v preds (call name args) gs e s k es =
-    let all : EvaluatedAll = evaluated_all (trees_of args) e s in name-proper (is_call name (tree_count all.trees)) v preds name all gs k es
+    let all : EvaluatedAll = evaluated_all (trees_of args) e s in name-proper (is_call name (tree_count all.trees)) v preds name args all gs k es
 goal-proper v preds (apply name args into) gs e s k es =
-    let all : EvaluatedAll = evaluated_all (trees_of args) e s in value-proper v (value_effect name all.trees all.state) preds name all into gs k es
+    let all : EvaluatedAll = evaluated_all (trees_of args) e s in value-proper v (value_effect name all.trees all.state) preds name args all into gs k es
 goal-proper v preds (seq hs) gs e s k es = tt
 goal-proper v preds (alternatives hs) gs e s k es = tt
 goal-proper v preds (if_else test g other) gs e s k es = tt
@@ -113,10 +114,17 @@ answer-proper names e s es none_open = told-proper (fits names (record { slots =
 answer-proper names e s es (strict_open above level b below) = tt
 answer-proper names e s es (catch_open above ball handler b below) = tt
 
+choice-proper : (c : Choice) (b : Back) (es : List Entry) → IsProper (choice_step c b es)
+choice-proper (rules_left called cs) b es = tt
+choice-proper (facts_left ts cs) b es = tt
+choice-proper (branches_left gs) b es = tt
+choice-proper (alternatives_left name args p []) b es = tt
+choice-proper (alternatives_left name args p (a ∷ alts)) b es = tt
+
 fail-proper : (es : List Entry) → IsProper (fail_step es)
 unfolding fail_step
 fail-proper [] = λ h. cc
-fail-proper (choice c b ∷ es) = tt
+fail-proper (choice c b ∷ es) = choice-proper c b es
 fail-proper (strict level b ∷ es) = tt
 fail-proper (catch_level ball handler b ∷ es) = tt
 fail-proper (left ∷ es) = tt

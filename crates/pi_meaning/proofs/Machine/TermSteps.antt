@@ -1,6 +1,6 @@
 -- Lemmas on steps: `call` leads one down, to an exception or to the goal by a name.
 use Rattle.std.proofs.Common.{◌≡◌, ℕ, suc, ◌||◌, Bool, true, false, cond, List, refl, ap, sym, subst, ◌∙◌}
-use Rattle.std.specs.Prelude.{Option, Some, None, codes}
+use Rattle.std.specs.Prelude.{Option, Some, None, codes, option_map, unwrap_or}
 use Rattle.pi_terms.specs.Tree.{Tree, Trees, no_trees, tree, trees_of, tree_count}
 use Rattle.pi_terms.specs.Places.{Places}
 use Rattle.pi_constraints.specs.State.{State, bindings, followed}
@@ -16,7 +16,8 @@ use Rattle.pi_traces.specs.Related.{end_by}
 use Rattle.pi_traces.proofs.RelatedLemmas.{by-then}
 use Rattle.pi_meaning.specs.Shared.View.{View}
 use Rattle.pi_meaning.specs.Shared.Level.{Level, lowest, over, LevelBelow, Point, PointBelow, same_but_level, or_called}
-use Rattle.pi_meaning.specs.Shared.Effects.{is_effect_name}
+use Rattle.pi_meaning.specs.Shared.Effects.{is_effect_name, is_built_name}
+use Rattle.pi_settling.specs.SolveCalls.{is_solve}
 use Rattle.pi_meaning.specs.Shared.Names.{is_later_predicate, is_planner, is_call}
 use Rattle.pi_meaning.specs.CoreMeaning.Builtins.{Builtins, BuiltinsOnlyAdd}
 use Rattle.pi_meaning.specs.Shared.Given.{Setting}
@@ -28,7 +29,10 @@ use Rattle.pi_meaning.proofs.Shared.CallLemmas.{built-later-adds, whole-adds}
 use Rattle.pi_meaning.proofs.Shared.KnownLemmas.{planner-later}
 use Rattle.pi_meaning.proofs.CoreMeaning.RuleLemmas.{level-below}
 use Rattle.pi_meaning.specs.Machine.NamedGoals.{goal_by_name}
-use Rattle.pi_meaning.proofs.Shared.EffectNames.{no-effect, no-predicate, planner-no_effect}
+use Rattle.pi_meaning.proofs.Shared.EffectNames.{no-effect, no-predicate}
+use Rattle.pi_meaning.proofs.Machine.SolveNames.{no-solve, planner-no_built}
+use Rattle.pi_meaning.specs.Shared.Solve.{solve_trace}
+use Rattle.pi_settling.specs.Asked.{Asked}
 use Rattle.pi_meaning.proofs.Shared.NamesApart.{planner-others}
 use Rattle.pi_meaning.proofs.Machine.NamedLemmas.{is_there, IsUnnamed, named-by, unnamed}
 use Rattle.pi_meaning.specs.Machine.Configuration.{Frame, Entry, Now, going, raising, config, behind, returning, in_places}
@@ -43,11 +47,19 @@ use Rattle.pi_meaning.proofs.Machine.NamedRuns.{Leaves, called_name, Runs, name-
 
 -- ---- names that nothing is found for
 
+neither-there : (a c : Bool) → (a || c) ≡ false → (a ≡ false) × (c ≡ false)
+neither-there true c h = absurd cc
+neither-there false c h = (refl, h)
+
 -- what isn't built of later stages isn't there
-later-unknown : (v : View) (preds : List PredTree) (l : Level) (name : List ℕ) (ts : Trees) (s : State) → is_effect_name name (tree_count ts) ≡ false →
+later-unknown : (v : View) (preds : List PredTree) (l : Level) (name : List ℕ) (ts : Trees) (s : State) → is_built_name name (tree_count ts) ≡ false →
     is_later_predicate name (tree_count ts) ≡ true → predicate_called (setting v preds) l name ts s ≡ unknown_name name (tree_count ts)
 unfolding predicate_called
-later-unknown v preds l name ts s none later = ap (λ o. or_called o l name ts s) (later-given v preds l name ts s (no-effect name ts s none) later)
+later-unknown v preds l name ts s none later =
+    let k : ℕ = tree_count ts in
+    let others : (is_effect_name name k ≡ false) × (is_solve name k ≡ false) = neither-there (is_effect_name name k) (is_solve name k) none in
+    ap (λ o. or_called o l name ts s) (later-given v preds l name ts s (no-effect name ts s others.0) later)
+    ∙ ap (λ (a : Option Asked). unwrap_or (option_map (solve_trace l s) a) (unknown_name name k)) (no-solve name ts s others.1)
 
 raised-by : (final action : Bool) (x y z : Tree) → cond {A = Trace State} final (cond action (end (Raise x)) (end (Raise y))) (end (Raise z)) ≡ end (Raise (cond final (cond action x y) z))
 raised-by true true x y z = refl
@@ -66,13 +78,9 @@ planner-unknown v preds d name ts s is =
     let action : Bool = is_defined preds (codes "action") 4 in
     name-known v preds d name ts s (planner-others name k is).0 (planner-others name k is).1
     ∙ (ap (λ b. cond b (with_planner set t) (cond (is_known set name k) t (unknown_name name k))) is
-    ∙ (ap (with_planner set) (later-unknown v preds l name ts s (planner-no_effect name k is) (planner-later name k is))
+    ∙ (ap (with_planner set) (later-unknown v preds l name ts s (planner-no_built name k is) (planner-later name k is))
     ∙ (raised-by final action (unknown_ball name k) (unknown_ball (codes "action") 4) (unknown_ball (codes "final") 1)
     ∙ ap (λ b. end (Raise (cond b (cond final (cond action (unknown_ball name k) (unknown_ball (codes "action") 4)) (unknown_ball (codes "final") 1)) (unknown_ball name k)))) (sym is))))
-
-neither-there : (a c : Bool) → (a || c) ≡ false → (a ≡ false) × (c ≡ false)
-neither-there true c h = absurd cc
-neither-there false c h = (refl, h)
 
 known-later : (a b c : Bool) → b ≡ true → (a || (b || c)) ≡ true
 known-later true b c h = refl
@@ -90,11 +98,11 @@ unknown-known : (v : View) (preds : List PredTree) (l : Level) (name : List ℕ)
 unknown-known v preds l name ts s other not_there true is =
     let k : ℕ = tree_count ts in
     not-planner v preds l name ts s other true (known-later (is_predicate name k) (is_later_predicate name k) (is_defined preds name k) is)
-    ∙ later-unknown v preds l name ts s (neither-there (is_effect_name name k) (is_defined preds name k) not_there).0 is
+    ∙ later-unknown v preds l name ts s (neither-there (is_built_name name k) (is_defined preds name k) not_there).0 is
 unknown-known v preds l name ts s other not_there false is =
     let k : ℕ = tree_count ts in
-    let none : (is_effect_name name k ≡ false) × (is_defined preds name k ≡ false) = neither-there (is_effect_name name k) (is_defined preds name k) not_there in
-    not-planner v preds l name ts s other false (known-none (is_predicate name k) (is_later_predicate name k) (is_defined preds name k) (no-predicate name k none.0) is none.1)
+    let none : (is_built_name name k ≡ false) × (is_defined preds name k ≡ false) = neither-there (is_built_name name k) (is_defined preds name k) not_there in
+    not-planner v preds l name ts s other false (known-none (is_predicate name k) (is_later_predicate name k) (is_defined preds name k) (no-predicate name k (neither-there (is_effect_name name k) (is_solve name k) none.0).0) is none.1)
 
 unnamed-unknown : (v : View) (preds : List PredTree) (d : ℕ) (name : List ℕ) (ts : Trees) (s : State) → is_planner name (tree_count ts) ≡ false → IsUnnamed preds name (tree_count ts) →
     called_name v preds d name ts s ≡ end (Raise (unknown_by preds name (tree_count ts)))

@@ -15,10 +15,16 @@ use Rattle.pi_constraints.specs.Evaluation.{EvaluatedAll, evaluated_all, with_ne
 use Rattle.pi_meaning.specs.CoreMeaning.Meaning.{slot_value}
 use Rattle.pi_meaning.specs.CoreMeaning.Run.{Solution}
 use Rattle.pi_core.specs.declared.core_program.NameSlot.{NameSlot}
-use Rattle.pi_meaning.specs.Machine.Configuration.{Frame, Back, Choice, rules_left, facts_left, branches_left, Strict, once_level, not_level, if_level, guard_level, value_level, list_level, number_level, Entry, choice, strict, catch_level, left, Now, going, settling, failed, raising, Config, config, behind, returning, telling}
+use Rattle.pi_meaning.specs.Machine.Configuration.{Frame, Back, Choice, rules_left, facts_left, branches_left, alternatives_left, Strict, once_level, not_level, if_level, guard_level, value_level, list_level, number_level, Entry, choice, strict, catch_level, left, Now, going, settling, failed, raising, Config, config, behind, returning, telling}
 use Rattle.pi_settling.specs.Settle.{Settlement}
+use Rattle.pi_constraints.specs.declared.constraint.Item.{Item}
+use Rattle.pi_settling.specs.Options.{Options, Objective, ValueWord}
+use Rattle.pi_settling.specs.Asked.{Asked, labels, raises}
+use Rattle.pi_settling.specs.SolveCalls.{solve_asked}
+use Rattle.pi_settling.specs.Confined.{confined}
+use Rattle.pi_settling.specs.Choices.{Pending, pending, picked}
 use Rattle.pi_meaning.specs.Shared.Settle.{settlement}
-use Rattle.pi_meaning.specs.Machine.Step.{back_to, branch, try_clauses, call_step, predicate_step, effect_step, function_step, goal_step, Open, none_open, strict_open, catch_open, newest_open, strict_step, leave, fits, told_step, answer_step, choice_step, end_step, fail_step, handler_step, below_left, raise_step, now_step, step, done_now, given_now, value_step, later_step, name_step, later_value, other_value, resource_effect, silently, with_rest, name_call, left_now, loaded_step, settle_step}
+use Rattle.pi_meaning.specs.Machine.Step.{back_to, branch, try_clauses, call_step, predicate_step, effect_step, function_step, goal_step, Open, none_open, strict_open, catch_open, newest_open, strict_step, leave, fits, told_step, answer_step, choice_step, end_step, fail_step, handler_step, below_left, raise_step, now_step, step, done_now, given_now, value_step, later_step, name_step, later_value, other_value, resource_effect, silently, Rest, with_rest, NameCall, name_call, label_step, labels_step, solve_step, left_now, loaded_step, settle_step}
 use Rattle.pi_meaning.specs.Machine.Shape.{IsBalanced, IsGood}
 use Rattle.pi_meaning.specs.Machine.Weight.{CallWeights, goal_weight, goals_weight, branches_weight, going_weight, frames_weight, strict_answer_weight, answer_weight, choice_weight, strict_weight, stack_weight, now_weight, weight_by, weight, GetsLighter, call_weight, clauses_weight, inside_weight, program_calls}
 use Rattle.pi_meaning.proofs.Machine.StackLemmas.{IsClosed, IsFound, newest-found}
@@ -73,18 +79,46 @@ function-lighter preds (Some pred) name all into k es c found free h = call-ligh
     (strict (value_level (comp pred.name all.trees) into) (back_to all.slots all.state k) ∷ es) in
     omega arith)
 
-later-lighter : (later : Bool) (preds : List PredTree) (name : List ℕ) (all : EvaluatedAll) (k : List Frame) (es : List Entry) (c : Config) → is_later_predicate name (tree_count all.trees) ≡ later →
-    is_call name (tree_count all.trees) ≡ false → is_effect_name name (tree_count all.trees) ≡ false → CallWeighs preds false name all k es c → GetsLighter preds c (later_step later preds (name_call name all) k es)
+-- a call of `solve` raises, goes on, or leaves the alternatives of a variable
+label-lighter : (calls : CallWeights) (c : NameCall) (w : ValueWord) (s : State) (r : Rest) (o : Option Pending) →
+    weight_by calls (label_step c w s r o) ≤ suc (going_weight calls r.goals (frames_weight calls r.frames (answer_weight calls 0 r.stack))) + stack_weight calls r.stack
+unfolding weight_by now_weight stack_weight choice_weight answer_weight
+label-lighter calls c w s r None = omega arith
+label-lighter calls c w s r (Some p) = omega arith
+
+labels-lighter : (calls : CallWeights) (objective : Option Objective) (o : Options) (items : List Item) (c : NameCall) (r : Rest) →
+    weight_by calls (labels_step objective o items c r) ≤ suc (going_weight calls r.goals (frames_weight calls r.frames (answer_weight calls 0 r.stack))) + stack_weight calls r.stack
 unfolding weight_by now_weight
-later-lighter true preds name all k es c is no_call built h = omega arith
-later-lighter false preds name all k es c is no_call built h =
-    predicate-lighter preds (find_pred false name (tree_count all.trees) preds) name all k es c refl
+labels-lighter calls (Some objective) o items c r = omega arith
+labels-lighter calls None o items c r =
+    let s : State = confined c.all.state items in label-lighter calls c o.value s r (picked (pending s items) o.variable)
+
+solve-lighter : (calls : CallWeights) (a : Option Asked) (c : NameCall) (r : Rest) →
+    weight_by calls (solve_step a c r) ≤ suc (going_weight calls r.goals (frames_weight calls r.frames (answer_weight calls 0 r.stack))) + stack_weight calls r.stack
+unfolding weight_by now_weight
+solve-lighter calls None c r = omega arith
+solve-lighter calls (Some (raises ball)) c r = omega arith
+solve-lighter calls (Some (labels o items)) c r = labels-lighter calls o.objective o items c r
+
+later-lighter : (later : Bool) (preds : List PredTree) (name : List ℕ) (args : List Tree) (all : EvaluatedAll) (gs : GoalTrees) (k : List Frame) (es : List Entry) (c : Config) →
+    is_later_predicate name (tree_count all.trees) ≡ later → is_call name (tree_count all.trees) ≡ false → is_effect_name name (tree_count all.trees) ≡ false →
+    CallWeighs preds false name all (behind gs k) es c → GetsLighter preds c (later_step later preds (name_call name args all) (with_rest gs k es))
+unfolding weight_by now_weight
+later-lighter true preds name args all gs k es c is no_call built h =
+    let calls : CallWeights = program_calls preds in
+    let a : ℕ = answer_weight calls 0 es in
+    let same : frames_weight calls (behind gs k) a ≡ goals_weight calls gs (frames_weight calls k a) = behind-weight calls gs k a in
+    let below : going_weight calls gs (frames_weight calls k a) ≤ goals_weight calls gs (frames_weight calls k a) = going-below calls gs (frames_weight calls k a) in
+    let light : _ = solve-lighter calls (solve_asked name all.trees all.state) (name_call name args all) (with_rest gs k es) in
+    omega arith
+later-lighter false preds name args all gs k es c is no_call built h =
+    predicate-lighter preds (find_pred false name (tree_count all.trees) preds) name all (behind gs k) es c refl
     (none-of (is_call name (tree_count all.trees)) (is_predicate name (tree_count all.trees)) (is_later_predicate name (tree_count all.trees)) no_call (no-predicate name (tree_count all.trees) built) is) h
 
 effect-step-lighter : (v : View) (o : Option Effect) (preds : List PredTree) (name : List ℕ) (args : List Tree) (e : Places) (s : State) (gs : GoalTrees) (k : List Frame) (es : List Entry) →
     let all : EvaluatedAll = evaluated_all (trees_of args) e s in
     predicate_effect name all.trees all.state ≡ o → is_call name (tree_count all.trees) ≡ false →
-    GetsLighter preds (config (going (goal (call name args) gs) e s k) es) (effect_step v o preds (name_call name all) (with_rest gs k es))
+    GetsLighter preds (config (going (goal (call name args) gs) e s k) es) (effect_step v o preds (name_call name args all) (with_rest gs k es))
 unfolding weight_by now_weight goal_weight
 effect-step-lighter v None preds name args e s gs k es is other =
     let all : EvaluatedAll = evaluated_all (trees_of args) e s in
@@ -93,7 +127,7 @@ effect-step-lighter v None preds name args e s gs k es is other =
     let r : ℕ = goals_weight calls gs (frames_weight calls k a) in
     let heavy : _ = call-heavy (is_call name (length args)) r in
     let many : calls false name (tree_count all.trees) r ≡ calls false name (length args) r = ap (λ n. calls false name n r) (given-many args e s) in
-    later-lighter (is_later_predicate name (tree_count all.trees)) preds name all (behind gs k) es (config (going (goal (call name args) gs) e s k) es) refl other
+    later-lighter (is_later_predicate name (tree_count all.trees)) preds name args all gs k es (config (going (goal (call name args) gs) e s k) es) refl other
     (sym (effects-listed name all.trees all.state) ∙ ap is_some is)
     (subst (λ x. suc (suc x) + calls false name (tree_count all.trees) x + stack_weight calls es ≤ weight preds (config (going (goal (call name args) gs) e s k) es)) (sym (behind-weight calls gs k a)) (omega arith))
 effect-step-lighter v (Some d) preds name args e s gs k es is other =
@@ -108,7 +142,7 @@ effect-step-lighter v (Some d) preds name args e s gs k es is other =
 -- `call`, and any other name
 name-lighter : (called : Bool) (v : View) (preds : List PredTree) (name : List ℕ) (args : List Tree) (e : Places) (s : State) (gs : GoalTrees) (k : List Frame) (es : List Entry) →
     let all : EvaluatedAll = evaluated_all (trees_of args) e s in
-    is_call name (tree_count all.trees) ≡ called → GetsLighter preds (config (going (goal (call name args) gs) e s k) es) (name_step called v preds (name_call name all) (with_rest gs k es))
+    is_call name (tree_count all.trees) ≡ called → GetsLighter preds (config (going (goal (call name args) gs) e s k) es) (name_step called v preds (name_call name args all) (with_rest gs k es))
 unfolding weight_by now_weight goal_weight
 name-lighter true v preds name args e s gs k es is =
     let all : EvaluatedAll = evaluated_all (trees_of args) e s in
@@ -124,11 +158,11 @@ name-lighter false v preds name args e s gs k es is =
     let all : EvaluatedAll = evaluated_all (trees_of args) e s in
     effect-step-lighter v (predicate_effect name all.trees all.state) preds name args e s gs k es refl is
 
-later-value-lighter : (later : Bool) (preds : List PredTree) (name : List ℕ) (all : EvaluatedAll) (into : ℕ) (k : List Frame) (es : List Entry) (c : Config) → is_later_function name (tree_count all.trees) ≡ later →
-    is_resource name (tree_count all.trees) ≡ false → is_value_name name (tree_count all.trees) ≡ false → CallWeighs preds true name all k es c → GetsLighter preds c (later_value later preds (name_call name all) into k es)
+later-value-lighter : (later : Bool) (preds : List PredTree) (name : List ℕ) (args : List Tree) (all : EvaluatedAll) (into : ℕ) (k : List Frame) (es : List Entry) (c : Config) → is_later_function name (tree_count all.trees) ≡ later →
+    is_resource name (tree_count all.trees) ≡ false → is_value_name name (tree_count all.trees) ≡ false → CallWeighs preds true name all k es c → GetsLighter preds c (later_value later preds (name_call name args all) into k es)
 unfolding weight_by now_weight
-later-value-lighter true preds name all into k es c is resource built h = omega arith
-later-value-lighter false preds name all into k es c is resource built h =
+later-value-lighter true preds name args all into k es c is resource built h = omega arith
+later-value-lighter false preds name args all into k es c is resource built h =
     function-lighter preds (find_pred true name (tree_count all.trees) preds) name all into k es c refl
     (none-of (is_function name (tree_count all.trees)) (is_resource name (tree_count all.trees)) (is_later_function name (tree_count all.trees)) (no-function name (tree_count all.trees) built) resource is) h
 
@@ -145,7 +179,7 @@ value-given-lighter preds d name args into e s all gs k es =
 other-value-lighter : (resource : Bool) (v : View) (preds : List PredTree) (name : List ℕ) (args : List Tree) (into : ℕ) (e : Places) (s : State) (gs : GoalTrees) (k : List Frame) (es : List Entry) →
     let all : EvaluatedAll = evaluated_all (trees_of args) e s in
     is_resource name (tree_count all.trees) ≡ resource → is_value_name name (tree_count all.trees) ≡ false →
-    GetsLighter preds (config (going (goal (apply name args into) gs) e s k) es) (other_value resource v preds (name_call name all) into (with_rest gs k es))
+    GetsLighter preds (config (going (goal (apply name args into) gs) e s k) es) (other_value resource v preds (name_call name args all) into (with_rest gs k es))
 unfolding weight_by now_weight goal_weight
 other-value-lighter true v preds name args into e s gs k es is built =
     let all : EvaluatedAll = evaluated_all (trees_of args) e s in value-given-lighter preds (resource_effect v.within all.state) name args into e s all gs k es
@@ -155,12 +189,12 @@ other-value-lighter false v preds name args into e s gs k es is built =
     let a : ℕ = answer_weight calls 0 es in
     let r : ℕ = goals_weight calls gs (frames_weight calls k a) in
     let many : calls true name (tree_count all.trees) r ≡ calls true name (length args) r = ap (λ n. calls true name n r) (given-many args e s) in
-    later-value-lighter (is_later_function name (tree_count all.trees)) preds name all into (behind gs k) es (config (going (goal (apply name args into) gs) e s k) es) refl is built
+    later-value-lighter (is_later_function name (tree_count all.trees)) preds name args all into (behind gs k) es (config (going (goal (apply name args into) gs) e s k) es) refl is built
     (subst (λ x. suc (suc x) + calls true name (tree_count all.trees) x + stack_weight calls es ≤ weight preds (config (going (goal (apply name args into) gs) e s k) es)) (sym (behind-weight calls gs k a)) (omega arith))
 
 value-step-lighter : (v : View) (o : Option FunctionEffect) (preds : List PredTree) (name : List ℕ) (args : List Tree) (into : ℕ) (e : Places) (s : State) (gs : GoalTrees) (k : List Frame) (es : List Entry) →
     let all : EvaluatedAll = evaluated_all (trees_of args) e s in
-    value_effect name all.trees all.state ≡ o → GetsLighter preds (config (going (goal (apply name args into) gs) e s k) es) (value_step v o preds (name_call name all) into (with_rest gs k es))
+    value_effect name all.trees all.state ≡ o → GetsLighter preds (config (going (goal (apply name args into) gs) e s k) es) (value_step v o preds (name_call name args all) into (with_rest gs k es))
 value-step-lighter v None preds name args into e s gs k es is =
     let all : EvaluatedAll = evaluated_all (trees_of args) e s in
     other-value-lighter (is_resource name (tree_count all.trees)) v preds name args into e s gs k es refl (sym (values-listed name all.trees all.state) ∙ ap is_some is)
@@ -291,11 +325,13 @@ answer-lighter preds names e s es h (catch_open above ball handler b below) f =
 
 -- ---- ends
 
-choice-lighter : (calls : CallWeights) (c : Choice) (b : Back) (es : List Entry) → Lighter calls (choice_step c b es) (weight_by calls (config failed (choice c b ∷ es)))
+choice-lighter : (preds : List PredTree) (c : Choice) (b : Back) (es : List Entry) → GetsLighter preds (config failed (choice c b ∷ es)) (choice_step c b es)
 unfolding weight_by now_weight stack_weight choice_weight
-choice-lighter calls (rules_left called cs) b es = let h : _ = rules-lighter calls called cs b es in omega arith
-choice-lighter calls (facts_left ts cs) b es = let h : _ = facts-lighter calls ts cs b es in omega arith
-choice-lighter calls (branches_left gs) b es = let h : _ = branch-lighter calls gs b es in omega arith
+choice-lighter preds (rules_left called cs) b es = let h : _ = rules-lighter (program_calls preds) called cs b es in omega arith
+choice-lighter preds (facts_left ts cs) b es = let h : _ = facts-lighter (program_calls preds) ts cs b es in omega arith
+choice-lighter preds (branches_left gs) b es = let h : _ = branch-lighter (program_calls preds) gs b es in omega arith
+choice-lighter preds (alternatives_left name args p []) b es = omega arith
+choice-lighter preds (alternatives_left name args p (a ∷ alts)) b es = tt
 
 end-lighter : (calls : CallWeights) (level : Strict) (b : Back) (es : List Entry) → Lighter calls (end_step level b es) (weight_by calls (config failed (strict level b ∷ es)))
 unfolding weight_by now_weight stack_weight strict_weight end_step goals_weight
@@ -310,7 +346,7 @@ end-lighter calls (number_level into n) b es = omega arith
 fail-lighter : (preds : List PredTree) (es : List Entry) → GetsLighter preds (config failed es) (fail_step es)
 unfolding fail_step weight_by now_weight stack_weight
 fail-lighter preds [] = tt
-fail-lighter preds (choice c b ∷ es) = choice-lighter (program_calls preds) c b es
+fail-lighter preds (choice c b ∷ es) = choice-lighter preds c b es
 fail-lighter preds (strict level b ∷ es) = end-lighter (program_calls preds) level b es
 fail-lighter preds (catch_level ball handler b ∷ es) = omega arith
 fail-lighter preds (left ∷ es) = omega arith
@@ -320,6 +356,7 @@ unfolding choice_weight
 choice-weighs calls (rules_left called cs) r a = omega arith
 choice-weighs calls (facts_left ts cs) r a = omega arith
 choice-weighs calls (branches_left gs) r a = omega arith
+choice-weighs calls (alternatives_left name args p alts) r a = omega arith
 
 strict-weighs : (calls : CallWeights) (level : Strict) (r a : ℕ) → 1 ≤ strict_weight calls level r a
 unfolding strict_weight

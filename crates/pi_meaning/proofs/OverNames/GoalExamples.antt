@@ -8,6 +8,7 @@ use Rattle.pi_syntax.specs.ProgramTree.{function, ProgramTree}
 use Rattle.pi_syntax.specs.declared.program.Decl.{Decl}
 use Rattle.pi_traces.specs.Trace.{Tick, Out, Done, Raise, Deep}
 use Rattle.pi_traces.specs.Depth.{Ended}
+use Rattle.pi_settling.specs.SolveCalls.{solve_calls}
 use Rattle.pi_meaning.specs.Shared.Within.{a_body}
 use Rattle.pi_meaning.specs.OverNames.Prelude.{calls, exps, v, equal, all, part}
 use Rattle.pi_meaning.proofs.Machine.Worked.{Outcome, Seen, seen, told, run_in, run_of, n, compound, is}
@@ -135,11 +136,11 @@ names-unknown :
 unfolding run_of
 names-unknown = refl
 
--- call(solve, 1): what isn't built of later stages is unknown
+-- call(post_event, 1, 2): what isn't built of later stages is unknown
 later-unknown :
-    run_of [] (calls (codes "call") (name (codes "solve") ∷ i 1 ∷ [])) 9 2
-    ≡ raised_with [] (compound (codes "unknown_name") (atom (codes "solve") ∷ n 1 ∷ []))
-unfolding run_of
+    run_of [] (calls (codes "call") (name (codes "post_event") ∷ i 1 ∷ i 2 ∷ [])) 9 2
+    ≡ raised_with [] (compound (codes "unknown_name") (atom (codes "post_event") ∷ n 2 ∷ []))
+unfolding run_of solve_calls
 later-unknown = refl
 
 -- p("ab") => true.

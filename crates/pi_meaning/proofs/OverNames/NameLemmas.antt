@@ -3,7 +3,7 @@ use Rattle.std.proofs.Common.{◌≡◌, ℕ, Bool, true, false, cond, List}
 use Rattle.std.specs.Prelude.{Option, Some, None, ◌||◌}
 use Rattle.pi_core.specs.GoalTree.{GoalTree, call}
 use Rattle.pi_core.specs.CoreTree.{PredTree, find_pred}
-use Rattle.pi_meaning.specs.Shared.Effects.{is_effect_name}
+use Rattle.pi_meaning.specs.Shared.Effects.{is_built_name}
 use Rattle.pi_meaning.specs.Shared.Names.{is_catch, is_call}
 use Rattle.pi_meaning.specs.CoreMeaning.Instances.{is_called_by_name}
 use Rattle.pi_meaning.specs.Machine.NamedGoals.{goal_by_name, slots_from, catch_of_slots, call_of_slots}
@@ -31,5 +31,5 @@ call-goal preds name k g other is e = first-chosen (is_call name k) (call_of_slo
 pub plain-goal : (preds : List PredTree) (name : List ℕ) (k : ℕ) (g : GoalTree) → is_catch name k ≡ false → is_call name k ≡ false → goal_by_name preds name k ≡ Some g → call name (slots_from 0 k) ≡ g
 unfolding goal_by_name
 plain-goal preds name k g other another e =
-    last-chosen (is_effect_name name k || is_called_by_name (find_pred false name k preds)) (call name (slots_from 0 k)) g
+    last-chosen (is_built_name name k || is_called_by_name (find_pred false name k preds)) (call name (slots_from 0 k)) g
     (second-chosen (is_call name k) (call_of_slots k) g _ another (second-chosen (is_catch name k) catch_of_slots g _ other e))

@@ -1,25 +1,28 @@
 -- Calls by name do the same and maybe more at a higher level, where what later stages give does, as it does where none is there.
 use Rattle.std.proofs.Common.{ℕ, Bool, true, false, cond, List, []}
-use Rattle.std.specs.Prelude.{Option, Some, None, codes, ⊤}
+use Rattle.std.specs.Prelude.{Option, Some, None, unwrap_or, option_map, codes, ⊤}
 use Rattle.std.specs.Option.{option_or}
 use Rattle.pi_terms.specs.Tree.{Tree, Trees, no_trees, tree, tree_count}
 use Rattle.pi_constraints.specs.State.{State, bindings, followed}
+use Rattle.pi_effects.specs.Effect.{Effect}
 use Rattle.pi_effects.specs.Items.{each_tree}
 use Rattle.pi_traces.specs.Trace.{Trace, end, Deep, Tick, done}
 use Rattle.pi_traces.specs.Depth.{Below, deeper, same_note}
 use Rattle.pi_meaning.specs.Shared.Settle.{settled}
 use Rattle.pi_meaning.specs.Shared.Level.{Level, lowest, over, Applied, LevelBelow, or_called, or_applied}
 use Rattle.pi_meaning.specs.Shared.Names.{is_later_predicate, is_planner, is_catch, is_call}
-use Rattle.pi_meaning.specs.Shared.Builtin.{effect, function_effect}
+use Rattle.pi_settling.specs.Goals.{constraint_effect}
+use Rattle.pi_meaning.specs.Shared.Builtin.{settled_effect, effect, function_effect}
 use Rattle.pi_meaning.specs.Shared.Given.{Setting, LaterOnlyAdds}
 use Rattle.pi_meaning.specs.Shared.Handling.{handled_in, handling}
 use Rattle.pi_meaning.specs.Shared.Calls.{built_in, given_later, predicate_given, predicate_called, function_given, function_called, Called, called_by, with_planner, is_known, known_called, call_goal, catch_called, again_called, term_called, called_at_level, called_below, first_called, unknown_name}
-use Rattle.pi_meaning.specs.CoreMeaning.Instances.{tabled, core_setting, predicate_or_call, built_later}
+use Rattle.pi_meaning.specs.CoreMeaning.Instances.{tabled, core_setting, predicate_or_call, solve_or_unknown, built_later}
 use Rattle.pi_meaning.specs.CoreMeaning.Builtins.{BuiltinsOnlyAdd}
 use Rattle.pi_meaning.specs.Shared.View.{View}
 use Rattle.pi_meaning.specs.CoreMeaning.Laws.{WholeOnlyAdds}
 use Rattle.pi_traces.proofs.BelowLemmas.{below-refl, below-then, below-caught}
 use Rattle.pi_meaning.proofs.CoreMeaning.MeaningLemmas.{calls-below}
+use Rattle.pi_meaning.proofs.Shared.SolveBelow.{solve-below}
 
 pub cond-below : {X : Type 0} (c : Bool) (t u v w : Trace X) → Below t v → Below u w → Below (cond c t u) (cond c v w)
 cond-below true t u v w a b = a
@@ -172,8 +175,13 @@ or-call-below set adds l m h name ts s =
     some-below (is_call name (tree_count ts)) (first_called set l ts s) (first_called set m ts s) (predicate_given set l name ts s) (predicate_given set m name ts s)
     (first-below set adds l m h ts s) (given-below set adds l m h name ts s)
 
+-- an effect where there is one, else what is done at a level
+or-effect-below : (v : View) (s : State) (o : Option Effect) (t u : Trace State) → Below t u → Below (unwrap_or (option_map (settled_effect v s) o) t) (unwrap_or (option_map (settled_effect v s) o) u)
+or-effect-below v s None t u more = more
+or-effect-below v s (Some e) t u more = below-refl (settled_effect v s e)
+
 pub built-later-adds : LaterOnlyAdds built_later
-built-later-adds v l m h name ts s = below-refl (built_later.predicate v l name ts s)
+built-later-adds v l m h name ts s = or-effect-below v s (constraint_effect name ts s) (solve_or_unknown l name ts s) (solve_or_unknown m name ts s) (solve-below l m h name ts s)
 
 pub whole-adds : WholeOnlyAdds
 whole-adds v later preds adds = record {

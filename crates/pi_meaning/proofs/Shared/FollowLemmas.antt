@@ -64,7 +64,7 @@ follows-unified s r t u is bt bu same = follows-grows s r (unified_grows s r t u
 
 -- ---- a variable that isn't bound
 
-follows-changed : (s : State) (n : ℕ) (v : Variable) → held (bindings s) n ≡ None → Follows s (with_variable s n v)
+pub follows-changed : (s : State) (n : ℕ) (v : Variable) → held (bindings s) n ≡ None → Follows s (with_variable s n v)
 follows-changed s n v none = follows-by s (with_variable s n v) refl (omega (arith, changed_next s n v)) (changed-keeps s n v none)
 
 -- ---- `::` and `notin`

@@ -45,6 +45,7 @@ use Rattle.pi_meaning.specs.Shared.Settle.{settled, settlement, is_unchanged, ar
 use Rattle.pi_settling.specs.Settle.{settlement as settlement_of_goal, stable_state, passes, runs_of}
 use Rattle.pi_settling.specs.Settled.{loaded}
 use Rattle.pi_settling.specs.Goals.{constraint_goals}
+use Rattle.pi_settling.specs.SolveCalls.{solve_calls}
 use Rattle.pi_settling.specs.Load.{count_due, same_domain}
 use Rattle.pi_settling.specs.Events.{events_from, variable_events}
 use Rattle.pi_settling.specs.Answers.{activations, activations_from}
@@ -155,7 +156,7 @@ stages-give = (refl, refl, refl)
 
 -- what isn't built of later stages is unknown to `call`; the predicates that a planner call wants are told first
 stages-lack :
-    (run_given built_later (query_view []) (call_of (atom (codes "solve") ∷ var 0 ∷ [])) 1 ≡ end (Raise (unknown (codes "solve") 1)))
+    (run_given built_later (query_view []) (call_of (atom (codes "post_event") ∷ var 0 ∷ var 0 ∷ [])) 1 ≡ end (Raise (unknown (codes "post_event") 2)))
     × (run_given built_later (query_view []) (call_of (atom (codes "plan") ∷ atom (codes "a") ∷ var 0 ∷ [])) 1 ≡ end (Raise (unknown (codes "final") 1)))
-unfolding run_given done_by constraint_goals
+unfolding run_given done_by constraint_goals solve_calls
 stages-lack = (refl, refl)

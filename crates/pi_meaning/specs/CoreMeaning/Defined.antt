@@ -3,7 +3,7 @@ use Rattle.std.specs.Prelude.{◌≡◌, ◌⊎◌, ◌++◌, ◌||◌, ℕ, Boo
 use Rattle.pi_terms.specs.Tree.{Tree}
 use Rattle.pi_core.specs.GoalTree.{GoalTree, call, apply, subgoals}
 use Rattle.pi_core.specs.CoreTree.{ClauseTree, PredTree, QueryTree, find_pred}
-use Rattle.pi_meaning.specs.Shared.Effects.{is_effect_name, is_value_name}
+use Rattle.pi_meaning.specs.Shared.Effects.{is_built_name, is_value_name}
 use Rattle.pi_meaning.specs.Shared.Names.{is_call, is_given}
 
 -- each call in a goal is of a predicate of the program or of one that is given so, and each call of a function is of one of the program or of one that is given so
@@ -27,7 +27,7 @@ pub record QueryCallsAmong (given values : List ℕ → ℕ → Bool) (program :
 
 -- the predicates that the machine has: those that are built, and `call`
 abbrev pub is_machine_predicate : List ℕ → ℕ → Bool
-is_machine_predicate name k = is_call name k || is_effect_name name k
+is_machine_predicate name k = is_call name k || is_built_name name k
 
 -- they call what they define and what the machine has
 abbrev pub CallsDefined : List PredTree → GoalTree → Type 0

@@ -9,10 +9,12 @@ use Rattle.pi_meaning.specs.Shared.View.{View}
 use Rattle.pi_meaning.specs.Shared.Level.{Level}
 use Rattle.pi_meaning.specs.Shared.Names.{is_call}
 use Rattle.pi_settling.specs.Goals.{constraint_effect}
+use Rattle.pi_settling.specs.SolveCalls.{solve_asked}
 use Rattle.pi_settling.specs.DomainValues.{domain_function}
 use Rattle.pi_meaning.specs.Shared.Builtin.{settled_effect, function_trace, effect, function_effect}
 use Rattle.pi_meaning.specs.CoreMeaning.Builtins.{Builtins}
 use Rattle.pi_meaning.specs.Shared.Given.{Later, Setting}
+use Rattle.pi_meaning.specs.Shared.Solve.{solve_trace}
 use Rattle.pi_meaning.specs.Shared.Calls.{predicate_given, function_given, first_called, unknown_name}
 
 -- what the tables of built-ins have
@@ -31,11 +33,14 @@ core_setting v later preds = record { view = v; later = later; defines = λ name
 abbrev pub predicate_or_call : Setting → Level → List ℕ → Trees → State → Option (Trace State)
 predicate_or_call set l name ts s = cond (is_call name (tree_count ts)) (Some (first_called set l ts s)) (predicate_given set l name ts s)
 
--- What is built of what later stages give: goals of constraints, each settled by itself, and functions of domains. Labelling, events and planner calls aren't there: what they
--- will give is as unknown to `call` as a name that nothing has.
+-- what `solve` does; any other name of a later stage is as unknown to `call` as a name that nothing has
+abbrev pub solve_or_unknown : Level → List ℕ → Trees → State → Trace State
+solve_or_unknown l name ts s = unwrap_or (option_map (solve_trace l s) (solve_asked name ts s)) (unknown_name name (tree_count ts))
+
+-- What is built of what later stages give: goals of constraints, each settled by itself, functions of domains, and labelling. Events and planner calls aren't there.
 abbrev pub built_later : Later
 built_later = record {
-  predicate = λ v l name ts s. unwrap_or (option_map (settled_effect v s) (constraint_effect name ts s)) (unknown_name name (tree_count ts));
+  predicate = λ v l name ts s. unwrap_or (option_map (settled_effect v s) (constraint_effect name ts s)) (solve_or_unknown l name ts s);
   function = λ name ts s. unwrap_or (option_map function_trace (domain_function name ts s)) done;
 }
 

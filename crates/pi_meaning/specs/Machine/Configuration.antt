@@ -4,6 +4,7 @@ use Rattle.std.specs.Prelude.{ℕ, Bool, true, false, List, [], ◌∷◌, Optio
 use Rattle.pi_terms.specs.Tree.{Tree, Trees, no_trees, tree}
 use Rattle.pi_terms.specs.Places.{Places}
 use Rattle.pi_constraints.specs.State.{State}
+use Rattle.pi_settling.specs.Choices.{Pending, Alternative}
 use Rattle.pi_core.specs.GoalTree.{GoalTree, GoalTrees, no_goals, goal}
 use Rattle.pi_core.specs.CoreTree.{ClauseTree}
 
@@ -27,11 +28,12 @@ pub record Called : Type 0 where
   pub args : Trees
 
 -- a choice: the rules that are left of a call; the facts that are left of a call with these arguments; the branches that are
--- left of alternatives
+-- left of alternatives; the alternatives that are left of the variable that a call of `solve` has picked, with that call as it is written
 pub data Choice : Type 0 where
   rules_left : Called → List ClauseTree → Choice
   facts_left : Trees → List ClauseTree → Choice
   branches_left : GoalTrees → Choice
+  alternatives_left : List ℕ → List Tree → Pending → List Alternative → Choice
 
 -- a level of which no exception is caught: `once`; `not`; `if` with both goals; the guard of a rule, with the rules behind
 -- it; a function call, as a term, and the slot for its value; `find_all`, by the slot that is collected, the slot for the

@@ -2,6 +2,7 @@
 use Rattle.std.specs.Prelude.{◌≡◌, ℕ, suc, false, List, [], ⊤}
 use Rattle.pi_terms.specs.Tree.{Tree}
 use Rattle.pi_terms.specs.Places.{Places}
+use Rattle.pi_settling.specs.Choices.{Pending}
 use Rattle.pi_constraints.specs.State.{State}
 use Rattle.pi_core.specs.GoalTree.{GoalTree, no_goals, goal}
 use Rattle.pi_core.specs.CoreTree.{ClauseTree, PredTree, leaves_others}
@@ -11,7 +12,7 @@ use Rattle.pi_meaning.specs.Shared.View.{View}
 use Rattle.pi_core.specs.declared.core_program.NameSlot.{NameSlot}
 use Rattle.pi_meaning.specs.Machine.Configuration.{Back, Called, once_level, not_level, if_level, guard_level, value_level, Entry, Config}
 use Rattle.pi_meaning.specs.Machine.Remaining.{remaining}
-use Rattle.pi_meaning.specs.Machine.Step.{Outcome, silently, with_tick, quietly, deeper, loading, writing, answering, ending, branch, strict_step, leave, step}
+use Rattle.pi_meaning.specs.Machine.Step.{Outcome, silently, with_tick, quietly, deeper, loading, writing, answering, ending, branch, later_alternatives, strict_step, leave, step}
 use Rattle.pi_meaning.specs.Machine.Shape.{IsGood}
 use Rattle.pi_meaning.specs.Machine.Built.{AreOfRules}
 use Rattle.pi_meaning.specs.Machine.Weight.{GetsLighter}
@@ -50,7 +51,7 @@ abbrev pub StepsGetLighter : Type 0
 StepsGetLighter = (v : View) (preds : List PredTree) (names : List NameSlot) (c : Config) → IsGood c → GetsLighter preds c (step v preds names c)
 
 -- A level that is left by an answer is gone, with all that lay above it; so is a `catch` without choices in it, and the
--- call of a rule that leaves no others. What takes the last branch keeps no choice.
+-- call of a rule that leaves no others. What takes the last branch, or the last alternative of a labelling, keeps no choice.
 pub record LeaveNothing (e : Places) (s : State) (above : List Entry) (b : Back) (below : List Entry) : Type 0 where
   pub once : (strict_step once_level e s above b below).stack ≡ below
   pub negation : (strict_step not_level e s above b below).stack ≡ below
@@ -61,6 +62,7 @@ pub record LeaveNothing (e : Places) (s : State) (above : List Entry) (b : Back)
   pub last_rule : (called : Called) (c : ClauseTree) → (strict_step (guard_level called c []) e s above b below).stack ≡ below
   pub caught : (ball : Tree) (handler : GoalTree) → leave [] ball handler b below ≡ below
   pub last_branch : (g : GoalTree) → (branch (goal g no_goals) b below).stack ≡ below
+  pub last_alternative : (name : List ℕ) (args : List Tree) (p : Pending) → later_alternatives name args p [] b below ≡ below
 
 abbrev pub LevelsLeaveNothing : Type 0
 LevelsLeaveNothing = (e : Places) (s : State) (above : List Entry) (b : Back) (below : List Entry) → LeaveNothing e s above b below

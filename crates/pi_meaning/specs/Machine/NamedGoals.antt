@@ -5,7 +5,7 @@ use Rattle.std.specs.Prelude.{ℕ, zero, suc, ◌||◌, false, cond, List, [], �
 use Rattle.pi_terms.specs.Tree.{Tree, var}
 use Rattle.pi_core.specs.GoalTree.{GoalTree, tick, call, seq, catch, goals_of}
 use Rattle.pi_core.specs.CoreTree.{PredTree, find_pred}
-use Rattle.pi_meaning.specs.Shared.Effects.{is_effect_name}
+use Rattle.pi_meaning.specs.Shared.Effects.{is_built_name}
 use Rattle.pi_meaning.specs.Shared.Names.{is_catch, is_call}
 use Rattle.pi_meaning.specs.CoreMeaning.Instances.{is_called_by_name}
 
@@ -29,4 +29,4 @@ unfoldable pub goal_by_name : List PredTree → List ℕ → ℕ → Option Goal
 goal_by_name preds name k =
     cond (is_catch name k) (Some catch_of_slots)
     (cond (is_call name k) (Some (call_of_slots k))
-    (cond (is_effect_name name k || is_called_by_name (find_pred false name k preds)) (Some (call name (slots_from 0 k))) None))
+    (cond (is_built_name name k || is_called_by_name (find_pred false name k preds)) (Some (call name (slots_from 0 k))) None))

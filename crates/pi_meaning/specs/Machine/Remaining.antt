@@ -1,6 +1,6 @@
 -- What remains of a run: the trace of what runs, and around it what the entries of the stack make of it, from the newest
 -- outwards. All goals that the machine still has to run do so at one level.
-use Rattle.std.specs.Prelude.{ℕ, ◌+◌, pos, List, [], ◌∷◌, ◌++◌, Some, codes, slice_set}
+use Rattle.std.specs.Prelude.{ℕ, ◌+◌, pos, List, [], ◌∷◌, ◌++◌, Option, Some, None, codes, slice_set}
 use Rattle.pi_terms.specs.Tree.{Tree, Trees, int}
 use Rattle.pi_terms.specs.Places.{Places, held}
 use Rattle.pi_constraints.specs.State.{State}
@@ -12,15 +12,16 @@ use Rattle.pi_meaning.specs.Shared.View.{View}
 use Rattle.pi_meaning.specs.CoreMeaning.Builtins.{Builtins}
 use Rattle.pi_meaning.specs.CoreMeaning.Instances.{built_later, whole}
 use Rattle.pi_meaning.specs.Shared.Raise.{raised_with}
-use Rattle.pi_meaning.specs.Shared.Level.{Level, Applied, Point}
+use Rattle.pi_meaning.specs.Shared.Level.{Level, Applied, Point, lower, ticked}
 use Rattle.pi_meaning.specs.CoreMeaning.Meaning.{Action, draining, with_slot, slot_value, copyable, with_list, meaning, meaning_of_all, meaning_of_any}
 use Rattle.pi_meaning.specs.Shared.Handling.{handling}
 use Rattle.pi_meaning.specs.CoreMeaning.Facts.{facts}
 use Rattle.pi_meaning.specs.CoreMeaning.Rules.{chosen_rule, rules, value_at, level_at, rules_by}
 use Rattle.pi_meaning.specs.CoreMeaning.Run.{Solution, answered_with}
 use Rattle.pi_core.specs.declared.core_program.NameSlot.{NameSlot}
-use Rattle.pi_meaning.specs.Machine.Configuration.{Frame, more, return, give, Back, Called, Choice, rules_left, facts_left, branches_left, Strict, once_level, not_level, if_level, guard_level, value_level, list_level, number_level, Entry, choice, strict, catch_level, left, Now, going, settling, telling, failed, raising, Config, after_body}
+use Rattle.pi_meaning.specs.Machine.Configuration.{Frame, more, return, give, Back, Called, Choice, rules_left, facts_left, branches_left, alternatives_left, Strict, once_level, not_level, if_level, guard_level, value_level, list_level, number_level, Entry, choice, strict, catch_level, left, Now, going, settling, telling, failed, raising, Config, after_body}
 use Rattle.pi_meaning.specs.Shared.Settle.{settled}
+use Rattle.pi_settling.specs.Choices.{Pending, Alternative, left_by, narrowed_to}
 
 abbrev pub point : Level → Places → State → Point
 point l e s = record { level = l; slots = e; state = s }
@@ -57,11 +58,24 @@ rules_trace given l call cs b = rules (rules_by given l (λ c. leaves_others cal
 unfoldable pub facts_trace : Builtins → Level → Trees → List ClauseTree → Back → Trace Point
 facts_trace given l ts cs b = then (facts cs ts b.state) (λ r. continued given l b.frames (point l b.slots r))
 
+-- an alternative, settled: from what that leaves the call labels on, at the level below, and then comes what is after the call
+abbrev pub alternative_tried : Builtins → Level → GoalTree → Back → Option State → Level → Trace Point
+alternative_tried given l g b None k = done
+alternative_tried given l g b (Some r) k =
+    then (settled b.state r) (λ s. then (meaning given g (point k b.slots s)) (λ q. continued given l b.frames (point l q.slots q.state)))
+
+-- the alternatives that are left of a labelling
+unfoldable pub alternatives_trace : Builtins → Level → GoalTree → Pending → List Alternative → Back → Trace Point
+alternatives_trace given l g p [] b = done
+alternatives_trace given l g p (a ∷ alts) b =
+    alt (ticked (lower l) (alternative_tried given l g b (narrowed_to b.state p.variable (left_by a p.domain)))) (alternatives_trace given l g p alts b)
+
 -- what a choice keeps
 unfoldable pub choice_trace : Builtins → Level → Choice → Back → Trace Point
 choice_trace given l (rules_left call cs) b = rules_trace given l call cs b
 choice_trace given l (facts_left ts cs) b = facts_trace given l ts cs b
 choice_trace given l (branches_left gs) b = then (meaning_of_any given gs (start_of l b)) (continued given l b.frames)
+choice_trace given l (alternatives_left name args p alts) b = alternatives_trace given l (GoalTree.call name args) p alts b
 
 -- what a level makes of the trace inside of it
 unfoldable pub level_trace : Builtins → Level → Strict → Back → Trace Point → Trace Point

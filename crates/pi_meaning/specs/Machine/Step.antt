@@ -17,7 +17,8 @@ use Rattle.pi_meaning.specs.Shared.Effects.{predicate_effect, value_effect}
 use Rattle.pi_meaning.specs.Shared.Names.{is_later_predicate, is_later_function, is_planner, is_resource, is_call}
 use Rattle.pi_meaning.specs.Shared.Calls.{Called as Named, called_by}
 use Rattle.pi_meaning.specs.CoreMeaning.Instances.{is_called_by_name}
-use Rattle.pi_meaning.specs.Machine.NamedGoals.{goal_by_name}
+use Rattle.pi_meaning.specs.Machine.NamedGoals.{slots_from, goal_by_name}
+use Rattle.pi_meaning.specs.Machine.Filled.{are_filled}
 use Rattle.pi_meaning.specs.Shared.Within.{Within, a_query, a_body, is_body}
 use Rattle.pi_meaning.specs.Shared.View.{View}
 use Rattle.pi_constraints.specs.Evaluation.{Evaluated, evaluated, EvaluatedAll, evaluated_all, with_new_variables}
@@ -28,8 +29,14 @@ use Rattle.pi_syntax.specs.declared.program.Mode.{Mode}
 use Rattle.pi_terms.specs.ListCopies.{list_of_copies, new_in_all}
 use Rattle.pi_meaning.specs.CoreMeaning.Run.{Solution}
 use Rattle.pi_core.specs.declared.core_program.NameSlot.{NameSlot}
-use Rattle.pi_meaning.specs.Machine.Configuration.{Frame, more, return, give, Back, Called, Choice, rules_left, facts_left, branches_left, Strict, once_level, not_level, if_level, guard_level, value_level, list_level, number_level, Entry, choice, strict, catch_level, left, Now, going, settling, telling, failed, raising, Config, config, behind, returning, after_body, in_places}
+use Rattle.pi_meaning.specs.Machine.Configuration.{Frame, more, return, give, Back, Called, Choice, rules_left, facts_left, branches_left, alternatives_left, Strict, once_level, not_level, if_level, guard_level, value_level, list_level, number_level, Entry, choice, strict, catch_level, left, Now, going, settling, telling, failed, raising, Config, config, behind, returning, after_body, in_places}
 use Rattle.pi_settling.specs.Settle.{Settlement}
+use Rattle.pi_constraints.specs.declared.constraint.Item.{Item}
+use Rattle.pi_settling.specs.Options.{Options, Objective, ValueWord}
+use Rattle.pi_settling.specs.Asked.{Asked, labels, raises}
+use Rattle.pi_settling.specs.SolveCalls.{solve_asked}
+use Rattle.pi_settling.specs.Confined.{confined}
+use Rattle.pi_settling.specs.Choices.{Pending, pending, picked, Alternative, alternatives as alternatives_of, left_by, narrowed_to}
 use Rattle.pi_meaning.specs.Shared.Settle.{settlement}
 
 -- what a step comes to: the next configuration; the same after a Tick; the same, where a quiet call was entered; the same, where `call` has led one
@@ -152,13 +159,14 @@ pub record Rest : Type 0 where
 abbrev pub with_rest : GoalTrees → List Frame → List Entry → Rest
 with_rest gs k es = record { goals = gs; frames = k; stack = es }
 
--- a call by a name, with its arguments as they are evaluated
+-- a call by a name, with its arguments as they are written and as they are evaluated
 pub record NameCall : Type 0 where
   pub name : List ℕ
+  pub args : List Tree
   pub all : EvaluatedAll
 
-abbrev pub name_call : List ℕ → EvaluatedAll → NameCall
-name_call name all = record { name = name; all = all }
+abbrev pub name_call : List ℕ → List Tree → EvaluatedAll → NameCall
+name_call name args all = record { name = name; args = args; all = all }
 
 -- a text that is written; what belongs to the body of a planner call may write none
 abbrev pub written_now : Bool → List ℕ → GoalTrees → Places → State → List Frame → Now
@@ -191,14 +199,65 @@ predicate_step None all k es = silently (config failed es)
 predicate_step (Some pred) all k es =
     call_step pred.quiet (try_clauses pred.index pred.clauses all.trees (back_to [] all.state (returning all.slots k)) es)
 
--- what isn't built of later stages of the language isn't there
-abbrev pub later_step : Bool → List PredTree → NameCall → List Frame → List Entry → Outcome
-later_step true preds c k es = silently (config (raising (unknown_ball c.name (tree_count c.all.trees))) es)
-later_step false preds c k es = predicate_step (find_pred false c.name (tree_count c.all.trees) preds) c.all k es
+-- ---- labelling
+
+-- alternatives are kept where there are any
+abbrev pub later_alternatives : List ℕ → List Tree → Pending → List Alternative → Back → List Entry → List Entry
+later_alternatives name args p [] b es = es
+later_alternatives name args p (a ∷ alts) b es = choice (alternatives_left name args p (a ∷ alts)) b ∷ es
+
+-- An alternative is settled, and from what that leaves the call labels on: its arguments are evaluated, so it asks for the same once more. One that leaves no value fails.
+abbrev pub alternative_now : GoalTree → Back → Option State → Now
+alternative_now g b None = failed
+alternative_now g b (Some r) = settling b.state r (goal g no_goals) b.slots b.frames
+
+-- a Tick and the first of these alternatives; the others stay
+abbrev pub alternatives_step : List ℕ → List Tree → Pending → List Alternative → Back → List Entry → Outcome
+alternatives_step name args p [] b es = silently (config failed es)
+alternatives_step name args p (a ∷ alts) b es =
+    with_tick (config (alternative_now (call name args) b (narrowed_to b.state p.variable (left_by a p.domain))) (later_alternatives name args p alts b es))
+
+-- how the call labels on after an alternative: its arguments, and what it comes back to
+pub record Again : Type 0 where
+  pub args : List Tree
+  pub back : Back
+
+-- The call labels on as it is written, in its slots, which hold each of its variables by now. One that names a slot which its block lacks (no clause or query that is run has such a
+-- goal) would make another variable each time: it labels on in slots of its own, which hold its arguments.
+abbrev pub again_by : Bool → NameCall → State → Rest → Again
+again_by true c s r = record { args = c.args; back = back_to c.all.slots s (behind r.goals r.frames) }
+again_by false c s r =
+    record { args = slots_from 0 (tree_count c.all.trees); back = back_to (in_places c.all.trees) s (returning c.all.slots (behind r.goals r.frames)) }
+
+abbrev pub again : NameCall → State → Rest → Again
+again c s r = again_by (are_filled c.all.slots (trees_of c.args)) c s r
+
+-- where no variable is unbound, the goals after the call go on; else one is picked, and its alternatives are what is left to be tried
+abbrev pub label_step : NameCall → ValueWord → State → Rest → Option Pending → Config
+label_step c w s r None = config (going r.goals c.all.slots s r.frames) r.stack
+label_step c w s r (Some p) =
+    let a : Again = again c s r in config failed (choice (alternatives_left c.name a.args p (alternatives_of w p.domain)) a.back ∷ r.stack)
+
+-- an objective isn't built
+abbrev pub labels_step : Option Objective → Options → List Item → NameCall → Rest → Config
+labels_step (Some objective) o items c r = config (raising (unknown_ball (codes "solve") 2)) r.stack
+labels_step None o items c r =
+    let s : State = confined c.all.state items in
+    label_step c o.value s r (picked (pending s items) o.variable)
+
+abbrev pub solve_step : Option Asked → NameCall → Rest → Config
+solve_step None c r = config (raising (unknown_ball c.name (tree_count c.all.trees))) r.stack
+solve_step (Some (raises ball)) c r = config (raising ball) r.stack
+solve_step (Some (labels o items)) c r = labels_step o.objective o items c r
+
+-- of later stages of the language just `solve` is built; what isn't there is not known
+abbrev pub later_step : Bool → List PredTree → NameCall → Rest → Outcome
+later_step true preds c r = silently (solve_step (solve_asked c.name c.all.trees c.all.state) c r)
+later_step false preds c r = predicate_step (find_pred false c.name (tree_count c.all.trees) preds) c.all (behind r.goals r.frames) r.stack
 
 abbrev pub effect_step : View → Option Effect → List PredTree → NameCall → Rest → Outcome
 effect_step v (Some e) preds c r = silently (config (done_now v c.all.state e r.goals c.all.slots r.frames) r.stack)
-effect_step v None preds c r = later_step (is_later_predicate c.name (tree_count c.all.trees)) preds c (behind r.goals r.frames) r.stack
+effect_step v None preds c r = later_step (is_later_predicate c.name (tree_count c.all.trees)) preds c r
 
 -- ---- `call`
 
@@ -267,10 +326,10 @@ goal_step v preds truth e s r = silently (config (going r.goals e s r.frames) r.
 goal_step v preds fail e s r = silently (config failed r.stack)
 goal_step v preds tick e s r = with_tick (config (going r.goals e s r.frames) r.stack)
 goal_step v preds (call name args) e s r =
-    let all : EvaluatedAll = evaluated_all (trees_of args) e s in name_step (is_call name (tree_count all.trees)) v preds (name_call name all) r
+    let all : EvaluatedAll = evaluated_all (trees_of args) e s in name_step (is_call name (tree_count all.trees)) v preds (name_call name args all) r
 goal_step v preds (apply name args into) e s r =
     let all : EvaluatedAll = evaluated_all (trees_of args) e s in
-    value_step v (value_effect name all.trees all.state) preds (name_call name all) into r
+    value_step v (value_effect name all.trees all.state) preds (name_call name args all) into r
 goal_step v preds (seq hs) e s r = silently (config (going hs e s (behind r.goals r.frames)) r.stack)
 goal_step v preds (alternatives hs) e s r = silently (branch hs (back_to e s (behind r.goals r.frames)) r.stack)
 goal_step v preds (if_else test g other) e s r =
@@ -362,10 +421,11 @@ answer_step names e s es (catch_open above ball handler b below) =
 
 -- ---- no further answer
 
-abbrev pub choice_step : Choice → Back → List Entry → Config
-choice_step (rules_left called cs) b es = try_rules called cs b es
-choice_step (facts_left ts cs) b es = try_facts ts cs b es
-choice_step (branches_left gs) b es = branch gs b es
+abbrev pub choice_step : Choice → Back → List Entry → Outcome
+choice_step (rules_left called cs) b es = silently (try_rules called cs b es)
+choice_step (facts_left ts cs) b es = silently (try_facts ts cs b es)
+choice_step (branches_left gs) b es = silently (branch gs b es)
+choice_step (alternatives_left name args p alts) b es = alternatives_step name args p alts b es
 
 unfoldable pub end_step : Strict → Back → List Entry → Config
 end_step once_level b es = config failed es
@@ -379,7 +439,7 @@ end_step (number_level into n) b es = config (going no_goals (slice_set b.slots 
 
 unfoldable pub fail_step : List Entry → Outcome
 fail_step [] = ending Done
-fail_step (choice c b ∷ es) = silently (choice_step c b es)
+fail_step (choice c b ∷ es) = choice_step c b es
 fail_step (strict s b ∷ es) = silently (end_step s b es)
 fail_step (catch_level ball handler b ∷ es) = silently (config failed es)
 fail_step (left ∷ es) = silently (config failed es)

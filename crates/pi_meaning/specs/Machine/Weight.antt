@@ -7,7 +7,7 @@ use Rattle.pi_core.specs.CoreTree.{ClauseTree, PredTree, find_pred}
 use Rattle.pi_meaning.specs.Shared.Names.{is_call, is_given}
 use Rattle.pi_meaning.specs.CoreMeaning.Quiet.{TicksBetween}
 use Rattle.pi_syntax.specs.declared.program.Mode.{Mode}
-use Rattle.pi_meaning.specs.Machine.Configuration.{Frame, more, return, give, Choice, rules_left, facts_left, branches_left, Strict, once_level, not_level, if_level, guard_level, value_level, list_level, number_level, Entry, choice, strict, catch_level, left, Now, going, settling, telling, failed, raising, Config}
+use Rattle.pi_meaning.specs.Machine.Configuration.{Frame, more, return, give, Choice, rules_left, facts_left, branches_left, alternatives_left, Strict, once_level, not_level, if_level, guard_level, value_level, list_level, number_level, Entry, choice, strict, catch_level, left, Now, going, settling, telling, failed, raising, Config}
 use Rattle.pi_meaning.specs.Machine.Step.{Outcome, silently, with_tick, quietly, deeper, loading, writing, answering, ending}
 
 -- what calls weigh by what they enter without a Tick: those of a function, or else of a predicate, by name and number of
@@ -129,6 +129,7 @@ unfoldable pub choice_weight : CallWeights → Choice → ℕ → ℕ → ℕ
 choice_weight calls (rules_left called cs) behind answer = suc (rules_weight calls cs (body_behind called.function behind answer))
 choice_weight calls (facts_left ts cs) behind answer = suc (facts_weight cs behind)
 choice_weight calls (branches_left gs) behind answer = suc (branches_weight calls gs behind)
+choice_weight calls (alternatives_left name args p alts) behind answer = 1
 
 unfoldable pub strict_weight : CallWeights → Strict → ℕ → ℕ → ℕ
 strict_weight calls once_level behind answer = 1
