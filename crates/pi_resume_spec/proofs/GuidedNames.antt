@@ -12,6 +12,7 @@ use Rattle.pi_effects.specs.Exception.{type_error}
 use Rattle.pi_effects.specs.Items.{each_tree}
 use Rattle.pi_effects.specs.BuiltIns.{built_in_predicate, built_in_function}
 use Rattle.pi_traces.specs.Trace.{Trace, end, End, Raise, Deep, Done, answers}
+use Rattle.pi_settling.specs.SolveCalls.{is_solve}
 use Rattle.pi_meaning.specs.Shared.View.{View}
 use Rattle.pi_meaning.specs.Shared.Within.{Within, a_query, a_body, is_body, resource_left}
 use Rattle.pi_meaning.specs.Shared.Builtin.{written, function_trace, settled_effect}
@@ -22,7 +23,7 @@ use Rattle.pi_meaning.specs.Shared.Calls.{Called, called_by, unknown_name, is_kn
 use Rattle.pi_meaning.specs.CoreMeaning.Instances.{core_setting}
 use Rattle.pi_resume_spec.specs.Resumed.{Search, simple, sequence, ticked}
 use Rattle.pi_resume_spec.specs.Searches.{SearchLevel, bottom, above, plain_level, searches_at, too_deep}
-use Rattle.pi_resume_spec.specs.ByName.{LaterSearches, is_solve, later_search, SearchSetting, plain_setting, built_in, given_later, predicate_given, predicate_called, handling, with_planner, known_called, Deeper, call_goal, catch_called, again_called, name_called, term_called, called_at_level, called_below, first_called, search_setting, all_names}
+use Rattle.pi_resume_spec.specs.ByName.{LaterSearches, later_search, SearchSetting, plain_setting, built_in, given_later, predicate_given, predicate_called, handling, with_planner, known_called, Deeper, call_goal, catch_called, again_called, name_called, term_called, called_at_level, called_below, first_called, search_setting, all_names}
 use Rattle.pi_resume_spec.specs.LanguageLaws.{OneAtMost, IsGuided, IsGuidedLevel, IsLater}
 use Rattle.pi_resume_spec.proofs.GuidedLemmas.{Guided, one-one, one-end, simple-guided, guided-sequence, guided-catch, guided-ticked}
 use Rattle.pi_resume_spec.proofs.GuidedGoals.{OptionGuided, OptionOne, AreOffered, Any, any-guided, guided-at, or-guided, one-settled, guided-handled}
@@ -31,7 +32,7 @@ if-guided : (test : Bool) (t u : Search State) → IsGuided t → IsGuided u →
 if-guided true t u a b = a
 if-guided false t u a b = b
 
-end-guided : (e : End) → IsGuided {A = State} (simple (end e))
+pub end-guided : (e : End) → IsGuided {A = State} (simple (end e))
 end-guided e = simple-guided (end e) (one-end State e)
 
 -- ---- what names do by themselves
@@ -59,13 +60,13 @@ if-option : (test : Bool) (o p : Option (Search State)) → OptionGuided o → O
 if-option true o p a b = a
 if-option false o p a b = b
 
-solve-guided : (later : LaterSearches) → IsLater later → (v : View) (l : SearchLevel) → IsGuidedLevel l → (name : List ℕ) (ts : Trees) (s : State) (b : Bool) → is_solve name (tree_count ts) ≡ b →
+solve-or-other : (later : LaterSearches) → IsLater later → (v : View) (l : SearchLevel) → IsGuidedLevel l → (name : List ℕ) (ts : Trees) (s : State) (b : Bool) → is_solve name (tree_count ts) ≡ b →
     IsGuided (cond b (later.solves v l name ts s) (simple (later.plain.predicate v (plain_level l) name ts s)))
-solve-guided later is v l h name ts s true e = is.guided v l h name ts s e
-solve-guided later is v l h name ts s false e = simple-guided (later.plain.predicate v (plain_level l) name ts s) (is.others v (plain_level l) name ts s e)
+solve-or-other later is v l h name ts s true e = is.guided v l h name ts s e
+solve-or-other later is v l h name ts s false e = simple-guided (later.plain.predicate v (plain_level l) name ts s) (is.others v (plain_level l) name ts s e)
 
 later-guided : (later : LaterSearches) → IsLater later → (v : View) (l : SearchLevel) → IsGuidedLevel l → (name : List ℕ) (ts : Trees) (s : State) → IsGuided (later_search later v l name ts s)
-later-guided later is v l h name ts s = solve-guided later is v l h name ts s (is_solve name (tree_count ts)) refl
+later-guided later is v l h name ts s = solve-or-other later is v l h name ts s (is_solve name (tree_count ts)) refl
 
 given-guided : (set : SearchSetting) → IsLater set.later → (l : SearchLevel) → IsGuidedLevel l → (name : List ℕ) (ts : Trees) (s : State) → OptionGuided (predicate_given set l name ts s)
 unfolding predicate_given
@@ -79,7 +80,7 @@ called-guided set is l h name ts s = or-guided (predicate_given set l name ts s)
 
 -- ---- `call`
 
-unknown-guided : (name : List ℕ) (k : ℕ) → IsGuided (simple (unknown_name {A = State} name k))
+pub unknown-guided : (name : List ℕ) (k : ℕ) → IsGuided (simple (unknown_name {A = State} name k))
 unknown-guided name k = simple-guided (unknown_name name k) (one-end State (Raise (comp (codes "unknown_name") (tree (atom name) (tree (int (pos k)) no_trees)))))
 
 planner-guided : (set : SearchSetting) (t : Search State) → IsGuided t → IsGuided (with_planner set t)

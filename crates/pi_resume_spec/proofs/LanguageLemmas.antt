@@ -1,6 +1,6 @@
 -- The laws of the paths of the core language.
 use Rattle.std.specs.Prelude.{◌≡◌, ℕ, pos, codes, false, List, [], ◌∷◌, ◌++◌, Option, Some, None, option_map, unwrap_or}
-use Rattle.std.proofs.Common.{subst, append-nil}
+use Rattle.std.proofs.Common.{sym, subst, append-nil}
 use Rattle.pi_resume_spec.specs.Ways.{Ways}
 use Rattle.pi_resume_spec.specs.Resumed.{Following, on_way, reached, cut_off, bad, resumed, Leads}
 use Rattle.pi_resume_spec.specs.ByName.{all_names}
@@ -18,15 +18,14 @@ use Rattle.pi_core.specs.CoreTree.{backtracks, ClauseTree}
 use Rattle.pi_effects.specs.Effect.{Effect, FunctionEffect, Gives, Refuses}
 use Rattle.pi_settling.specs.DomainValues.{domain_function}
 use Rattle.pi_settling.specs.Goals.{constraint_effect}
-use Rattle.pi_traces.specs.Trace.{Raise, Done, done}
+use Rattle.pi_traces.specs.Trace.{Trace, Raise, Done, done}
 use Rattle.pi_meaning.specs.Shared.View.{View}
 use Rattle.pi_meaning.specs.Shared.Builtin.{settled_effect, function_trace}
-use Rattle.pi_meaning.specs.CoreMeaning.Instances.{built_later}
 use Rattle.pi_meaning.specs.Shared.Level.{Applied}
 use Rattle.pi_meaning.specs.Shared.Calls.{unknown_name}
-use Rattle.pi_resume_spec.proofs.PlainGoals.{plain-simple}
-use Rattle.pi_resume_spec.proofs.GuidedLemmas.{simple-guided, one-end, one-one}
-use Rattle.pi_resume_spec.specs.Searches.{plain_level}
+use Rattle.pi_resume_spec.proofs.GuidedLemmas.{one-end, one-one}
+use Rattle.pi_resume_spec.proofs.SolvePlain.{built-plain, others-alone}
+use Rattle.pi_resume_spec.proofs.SolveGuided.{solve-guided}
 
 -- ---- what is asked
 
@@ -41,9 +40,9 @@ one-value (Some (Refuses ball)) = one-end Applied (Raise ball)
 
 pub built-is-later : BuiltIsLater
 built-is-later = record {
-  plain = λ v l name ts s e. plain-simple (built_later.predicate v (plain_level l) name ts s);
-  guided = λ v l h name ts s e. simple-guided (built_later.predicate v (plain_level l) name ts s) (one-built v name ts s (constraint_effect name ts s));
-  others = λ v l name ts s e. one-built v name ts s (constraint_effect name ts s);
+  plain = λ v l name ts s is. built-plain v l name ts s is;
+  guided = λ v l h name ts s is. solve-guided l h name ts s;
+  others = λ v l name ts s is. subst (λ (t : Trace State). OneAtMost t) (sym (others-alone v l name ts s is)) (one-built v name ts s (constraint_effect name ts s));
   functions = λ name ts s. one-value (domain_function name ts s);
 }
 

@@ -14,6 +14,7 @@ use Rattle.pi_effects.specs.BuiltIns.{built_in_predicate, is_predicate}
 use Rattle.pi_effects.specs.Exception.{type_error}
 use Rattle.pi_traces.specs.Trace.{end, Raise, done}
 use Rattle.pi_traces.proofs.LastLemmas.{Any, any-falls, done-lasts, raise-lasts}
+use Rattle.pi_settling.specs.SolveCalls.{is_solve}
 use Rattle.pi_meaning.specs.Shared.View.{View}
 use Rattle.pi_meaning.specs.Shared.Settle.{settled}
 use Rattle.pi_meaning.specs.Shared.Names.{is_later_predicate, is_planner, is_catch, is_call}
@@ -28,11 +29,13 @@ use Rattle.pi_meaning.proofs.CoreMeaning.QuietGoals.{worth, counted as counts, w
 use Rattle.pi_meaning.proofs.CoreMeaning.QuietCalls.{built-predicate-lasts, whole-lasts}
 use Rattle.pi_resume_spec.specs.Resumed.{Search, simple, sequence, ticked}
 use Rattle.pi_resume_spec.specs.Searches.{SearchLevel, bottom, above, searches_at, plain_level, too_deep}
-use Rattle.pi_resume_spec.specs.ByName.{Offers, built_searches, later_search, is_solve, SearchSetting, or_searched, built_in, given_later, predicate_given, predicate_called, handled_in, handling, with_planner, known_called, Deeper, call_goal, catch_called, again_called, term_called, called_at_level, first_called, search_setting, all_names}
+use Rattle.pi_resume_spec.specs.ByName.{Offers, built_searches, later_search, SearchSetting, or_searched, built_in, given_later, predicate_given, predicate_called, handled_in, handling, with_planner, known_called, Deeper, call_goal, catch_called, again_called, term_called, called_at_level, first_called, search_setting, all_names}
+use Rattle.pi_resume_spec.specs.Solve.{solve_or_unknown}
 use Rattle.pi_resume_spec.specs.Queries.{query_search, resumed_query}
 use Rattle.pi_resume_spec.specs.ResumedCut.{ResumedWithoutDeep}
 use Rattle.pi_resume_spec.proofs.LastLemmas.{SearchLasts, less-search, none-search, simple-lasts, sequence-lasts, catch-lasts as caught-lasts, tick-lasts, resumed-lasts, resumed-cut_lasts}
-use Rattle.pi_resume_spec.proofs.LastGoals.{depth_of, count_at, SearchLevelLasts, searches-last, OptionSearchLasts, OffersLast}
+use Rattle.pi_resume_spec.proofs.LastGoals.{depth_of, count_at, SearchLevelLasts, searches-last, plain-lasts, OptionSearchLasts, OffersLast}
+use Rattle.pi_resume_spec.proofs.SolveLasts.{solve-lasts}
 use Rattle.pi_resume_spec.proofs.LastRules.{twice, query-lasts}
 
 cond-lasts : (d : ℕ) (test : Bool) (s t : Search State) → SearchLasts Any d s → SearchLasts Any d t → SearchLasts Any d (cond test s t)
@@ -62,17 +65,18 @@ effect-lasts : (v : View) (d : ℕ) (s : State) (o : Option Effect) → OptionSe
 effect-lasts v d s None = tt
 effect-lasts v d s (Some e) = simple-lasts Any any-falls d (settled_effect v s e) (settled-effect-lasts d v s e)
 
-later-lasts : (v : View) (d : ℕ) (l : SearchLevel) (name : List ℕ) (ts : Trees) (s : State) → SearchLasts Any d (later_search built_searches v l name ts s)
-later-lasts v d l name ts s =
-    let t : Search State = simple (built_later.predicate v (plain_level l) name ts s) in
-    let lasts : SearchLasts Any d t = simple-lasts Any any-falls d (built_later.predicate v (plain_level l) name ts s) (built-predicate-lasts d v name ts s) in
-    cond-lasts d (is_solve name (tree_count ts)) t t lasts lasts
+later-lasts : (v : View) (preds : List PredTree) (r : TicksBetween preds) (f d : ℕ) (l : SearchLevel) → d ≤ count_at l → SearchLevelLasts preds r f l → (name : List ℕ) (ts : Trees) (s : State) →
+    SearchLasts Any d (later_search built_searches v l name ts s)
+later-lasts v preds r f d l h last name ts s =
+    cond-lasts d (is_solve name (tree_count ts)) (solve_or_unknown l name ts s) (simple (built_later.predicate v (plain_level l) name ts s)) (solve-lasts preds r f d l h last name ts s)
+    (simple-lasts Any any-falls d (built_later.predicate v (plain_level l) name ts s) (built-predicate-lasts preds r f d (plain_level l) h (plain-lasts preds r f l last) v name ts s))
 
-given-lasts : (v : View) (preds : List PredTree) (d : ℕ) (l : SearchLevel) (name : List ℕ) (ts : Trees) (s : State) → OptionSearchLasts d (predicate_given (alone v preds) l name ts s)
+given-lasts : (v : View) (preds : List PredTree) (r : TicksBetween preds) (f d : ℕ) (l : SearchLevel) → d ≤ count_at l → SearchLevelLasts preds r f l → (name : List ℕ) (ts : Trees) (s : State) →
+    OptionSearchLasts d (predicate_given (alone v preds) l name ts s)
 unfolding predicate_given
-given-lasts v preds d l name ts s =
+given-lasts v preds r f d l h last name ts s =
     or-lasts d (built_in (alone v preds) name ts s) (given_later (alone v preds) l name ts s) (effect-lasts v d s (built_in_predicate name ts s))
-    (some-lasts d (is_later_predicate name (tree_count ts)) (later_search built_searches v l name ts s) None (later-lasts v d l name ts s) tt)
+    (some-lasts d (is_later_predicate name (tree_count ts)) (later_search built_searches v l name ts s) None (later-lasts v preds r f d l h last name ts s) tt)
 
 -- ---- calls by name
 
@@ -103,7 +107,7 @@ predicate-lasts : (v : View) (preds : List PredTree) (r : TicksBetween preds) (f
     Finds v preds l name ts s → SearchLasts Any d (predicate_called (alone v preds) l name ts s)
 unfolding predicate_called Finds
 predicate-lasts v preds r f d l h last name ts s found =
-    called-lasts preds r f d l h last name ts s (predicate_given (alone v preds) l name ts s) (given-lasts v preds d l name ts s) found
+    called-lasts preds r f d l h last name ts s (predicate_given (alone v preds) l name ts s) (given-lasts v preds r f d l h last name ts s) found
 
 known-finds : (v : View) (preds : List PredTree) (l : SearchLevel) (name : List ℕ) (ts : Trees) (s : State) → is_known (core_setting v built_later preds) name (tree_count ts) ≡ true → Finds v preds l name ts s
 unfolding Finds
@@ -215,7 +219,8 @@ first-lasts v preds r f d (above c l) h last (tree t ts) s = at-level v preds r 
 pub names-last : (v : View) (preds : List PredTree) (r : TicksBetween preds) → OffersLast preds r (all_names v built_searches preds)
 names-last v preds r = record {
   predicates = λ f d l h last name ts s.
-      some-lasts d (is_call name (tree_count ts)) (first_called (alone v preds) l ts s) (predicate_given (alone v preds) l name ts s) (first-lasts v preds r f d l h last ts s) (given-lasts v preds d l name ts s);
+      some-lasts d (is_call name (tree_count ts)) (first_called (alone v preds) l ts s) (predicate_given (alone v preds) l name ts s) (first-lasts v preds r f d l h last ts s)
+      (given-lasts v preds r f d l (omega (arith, h, (worth-counted (plain_level l)).0)) last name ts s);
   plain = whole-lasts v preds r;
 }
 

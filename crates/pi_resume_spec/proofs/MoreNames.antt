@@ -11,17 +11,18 @@ use Rattle.pi_effects.specs.Items.{each_tree}
 use Rattle.pi_effects.specs.Exception.{type_error}
 use Rattle.pi_traces.specs.Trace.{end, Raise, done}
 use Rattle.pi_traces.proofs.RelatedLemmas.{Same, by-below}
+use Rattle.pi_settling.specs.SolveCalls.{is_solve}
 use Rattle.pi_meaning.specs.Shared.View.{View}
 use Rattle.pi_meaning.specs.Shared.Names.{is_later_predicate, is_planner, is_catch, is_call}
 use Rattle.pi_meaning.specs.Shared.Calls.{Called, called_by, unknown_name, is_known}
-use Rattle.pi_meaning.specs.CoreMeaning.Instances.{built_later}
 use Rattle.pi_meaning.proofs.Shared.CallLemmas.{built-later-adds, whole-adds}
 use Rattle.pi_resume_spec.specs.Resumed.{Search, simple, sequence, ticked}
 use Rattle.pi_resume_spec.specs.Searches.{SearchLevel, bottom, above, searches_at, plain_level, too_deep}
-use Rattle.pi_resume_spec.specs.ByName.{LaterSearches, is_solve, later_search, SearchSetting, plain_setting, or_searched, built_in, given_later, predicate_given, predicate_called, handling, with_planner, known_called, Deeper, call_goal, catch_called, again_called, name_called, term_called, called_at_level, called_below, first_called, search_setting, predicate_or_call}
+use Rattle.pi_resume_spec.specs.ByName.{LaterSearches, later_search, SearchSetting, plain_setting, or_searched, built_in, given_later, predicate_given, predicate_called, handling, with_planner, known_called, Deeper, call_goal, catch_called, again_called, name_called, term_called, called_at_level, called_below, first_called, search_setting, predicate_or_call}
 use Rattle.pi_resume_spec.specs.More.{SearchBelow, SearchLevelBelow, LaterSearchesAdd}
 use Rattle.pi_resume_spec.specs.RunLaws.{NamesOnlyAdd, BuiltSearchesAdd}
 use Rattle.pi_resume_spec.proofs.MoreLemmas.{SearchBy, search-below, search-by, search-itself, simple-by, deep-by, sequence-same, HandlersBy, caught-by, ticked-by}
+use Rattle.pi_resume_spec.proofs.SolveMore.{solve-more}
 use Rattle.pi_resume_spec.proofs.MoreGoals.{searches-below, plain-below, handled-more}
 
 cond-more : (test : Bool) (s t u v : Search State) → SearchBelow s u → SearchBelow t v → SearchBelow (cond test s t) (cond test u v)
@@ -187,4 +188,4 @@ names-more v later adds preds = record {
 }
 
 pub built-adds : BuiltSearchesAdd
-built-adds = record { solves = λ v l m h name ts s. search-itself (simple (built_later.predicate v (plain_level l) name ts s)); plain = built-later-adds }
+built-adds = record { solves = λ v l m h name ts s. solve-more l m h name ts s; plain = built-later-adds }

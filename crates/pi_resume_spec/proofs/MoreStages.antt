@@ -31,7 +31,7 @@ use Rattle.pi_resume_spec.proofs.MoreLemmas.{SearchBy, search-below, search-by, 
 -- ---- labelling
 
 -- the lowest depth does less than any
-abbrev DoMore : Option Lower → Option Lower → Type 0
+abbrev pub DoMore : Option Lower → Option Lower → Type 0
 DoMore None m = Unit {0}
 DoMore (Some l) None = ⊥
 DoMore (Some l) (Some m) = ((s : State) → SearchBelow (l.drains s) (m.drains s)) × ((s : State) → SearchBelow (l.labels s) (m.labels s))
@@ -60,7 +60,7 @@ by-more settle l m h o s (Some p) =
     let alts : List Alternative = alternatives_of o.value p.domain in
     search-below (alternatives (tries settle l s p alts)) (alternatives (tries settle m s p alts)) (alternatives-by Same (tries settle l s p alts) (tries settle m s p alts) (tries-more settle l m h s p alts))
 
-labelled-more : (settle : Settling) (l m : Option Lower) → DoMore l m → (o : Options) (items : List Item) (s : State) → SearchBelow (labelled settle l o items s) (labelled settle m o items s)
+pub labelled-more : (settle : Settling) (l m : Option Lower) → DoMore l m → (o : Options) (items : List Item) (s : State) → SearchBelow (labelled settle l o items s) (labelled settle m o items s)
 labelled-more settle l m h o items s = by-more settle l m h o s (picked (pending s items) o.variable)
 
 at-more : (settle : Settling) (drains : ℕ → State → Search State) → DrainsAdd drains → (o : Options) (items : List Item) (d : ℕ) (s : State) →

@@ -13,6 +13,7 @@ use Rattle.pi_effects.specs.Items.{each_tree}
 use Rattle.pi_effects.specs.BuiltIns.{built_in_predicate}
 use Rattle.pi_traces.specs.Trace.{Trace, end, note, Deep, Tick, then}
 use Rattle.pi_traces.specs.Control.{caught}
+use Rattle.pi_settling.specs.SolveCalls.{is_solve}
 use Rattle.pi_meaning.specs.Shared.View.{View}
 use Rattle.pi_meaning.specs.Shared.Settle.{settled}
 use Rattle.pi_meaning.specs.Shared.Builtin.{settled_effect}
@@ -23,7 +24,7 @@ use Rattle.pi_meaning.specs.Shared.Calls as over_levels
 use Rattle.pi_meaning.specs.Shared.Calls.{Called, called_by, unknown_name, is_known}
 use Rattle.pi_resume_spec.specs.Resumed.{Search, simple, sequence, ticked}
 use Rattle.pi_resume_spec.specs.Searches.{SearchLevel, bottom, above, searches_at, plain_level, without_paths, too_deep}
-use Rattle.pi_resume_spec.specs.ByName.{LaterSearches, is_solve, later_search, SearchSetting, plain_setting, built_in, given_later, predicate_given, predicate_called, handled_in, handling, with_planner, known_called, Deeper, call_goal, catch_called, again_called, name_called, term_called, called_at_level, called_below, first_called, search_setting, all_names}
+use Rattle.pi_resume_spec.specs.ByName.{LaterSearches, later_search, SearchSetting, plain_setting, built_in, given_later, predicate_given, predicate_called, handled_in, handling, with_planner, known_called, Deeper, call_goal, catch_called, again_called, name_called, term_called, called_at_level, called_below, first_called, search_setting, all_names}
 use Rattle.pi_resume_spec.specs.LanguageLaws.{IsLater}
 use Rattle.pi_resume_spec.proofs.PlainLemmas.{same-then, same-caught, plain_of_catch}
 use Rattle.pi_resume_spec.proofs.PlainGoals.{plain-simple, plain-sequence, calls-plain, ArePlain, or-plain}

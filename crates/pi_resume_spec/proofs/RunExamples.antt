@@ -43,6 +43,7 @@ use Rattle.pi_constraints.specs.Evaluation.{evaluated, evaluated_all, with_new_v
 use Rattle.pi_constraints.specs.HeadMatch.{matched_in, matched_all_in}
 use Rattle.pi_effects.specs.Exception.{thrown, exception_with}
 use Rattle.pi_effects.specs.Rows.{done_by, has_line}
+use Rattle.pi_settling.specs.SolveCalls.{solve_calls}
 use Rattle.pi_syntax.specs.PrintTerm.{written}
 use Rattle.pi_syntax.specs.PrintAtom.{atom_text}
 use Rattle.pi_effects.specs.Items.{each_tree}
@@ -163,5 +164,5 @@ asks :
     × (query_behind planning p (query planned 2) (1 ∷ []) 0 [] 2 ≡ record { events = []; stop = Spent })
     × (query_behind planning p (query planned 2) (3 ∷ []) 1 [] 2 ≡ record { events = noted Tick ∷ []; stop = Ended Done })
     × (run_loads (query_behind planning p (query planned 2) (1 ∷ []) 1) [] 2 ≡ 3)
-unfolding loads_of resumed_cut query_search search draining strictly calling applying collecting counting catching pred_search rule_searches quiet_search searches_of quiet_level search_level predicate_given predicate_called called_at_level first_called rules_ways choice_from rules_taken with_rest follows_then taken_from to_answer on_first to_exception with_handler resumed later_predicates is_later_predicate told find_pred built_in_predicate built_in_function tests comparing_tests kind_tests writing_predicates other_predicates reading_functions integer_functions collection_functions sorting_functions index_functions range_functions naming_functions text_functions making_functions done_by list_of_copies new_in_all with_new_variables then alt first chosen negated caught collected counted evaluated evaluated_all matched_in matched_all_in drained settled settlement is_unchanged are_unchanged settlement_of_goal stable_state passes runs_of loaded count_due same_domain events_from variable_events activations activations_from thrown exception_with raised_with copy occurrences firsts all_unified unified_for outcome assigned joined in_pairs most_pairs unbound_in cells_of_pairs cells value rounds instance followed followed_for order tree_count fits_modes fact_term fact_terms watch_trees function_given value_of written atom_text each_tree is_predicate has_line
+unfolding loads_of resumed_cut query_search search draining strictly calling applying collecting counting catching pred_search rule_searches quiet_search searches_of quiet_level search_level predicate_given predicate_called called_at_level first_called rules_ways choice_from rules_taken with_rest follows_then taken_from to_answer on_first to_exception with_handler resumed later_predicates is_later_predicate told find_pred built_in_predicate built_in_function tests comparing_tests kind_tests writing_predicates other_predicates reading_functions integer_functions collection_functions sorting_functions index_functions range_functions naming_functions text_functions making_functions done_by list_of_copies new_in_all with_new_variables then alt first chosen negated caught collected counted evaluated evaluated_all matched_in matched_all_in drained settled settlement is_unchanged are_unchanged settlement_of_goal stable_state passes runs_of loaded count_due same_domain events_from variable_events activations activations_from thrown exception_with raised_with copy occurrences firsts all_unified unified_for outcome assigned joined in_pairs most_pairs unbound_in cells_of_pairs cells value rounds instance followed followed_for order tree_count fits_modes fact_term fact_terms watch_trees function_given value_of written atom_text each_tree is_predicate has_line solve_calls
 asks = (refl, refl, refl, refl)

@@ -64,7 +64,7 @@ by-same : (settle : Settling) (below : Option label.Lower) (o : Options) (s : St
 by-same settle below o s None = plain-simple (one s)
 by-same settle below o s (Some p) = tries-same settle below s p (alternatives_of o.value p.domain) 1
 
-labelled-same : (settle : Settling) (below : Option label.Lower) (o : Options) (items : List Item) (s : State) →
+pub labelled-same : (settle : Settling) (below : Option label.Lower) (o : Options) (items : List Item) (s : State) →
     without_paths (labelled settle below o items s) ≡ plain_label.labelled settle (option_map label.plain_lower below) o items s
 labelled-same settle below o items s = by-same settle below o s (picked (pending s items) o.variable)
 
@@ -86,7 +86,7 @@ tried-guided settle once l drains labels s (Some r) =
     (guided-sequence Any Any (simple (settle s r)) l.drains (any-guided (simple (settle s r)) (simple-guided (settle s r) (once s r))) (λ x u. any-guided (l.drains x) (drains x)))
     (λ x u. any-guided (l.labels x) (labels x))
 
-abbrev LowerGuided : Option label.Lower → Type 0
+abbrev pub LowerGuided : Option label.Lower → Type 0
 LowerGuided None = Unit {0}
 LowerGuided (Some l) = ((s : State) → IsGuided (l.drains s)) × ((s : State) → IsGuided (l.labels s))
 
@@ -99,7 +99,7 @@ unfolding AllGuided
 tries-guided settle once below h s p [] = tt
 tries-guided settle once below h s p (a ∷ alts) = (one-guided settle once below h s (narrowed_to s p.variable (left_by a p.domain)), tries-guided settle once below h s p alts)
 
-by-guided : (settle : Settling) → SettlesOnce settle → (below : Option label.Lower) → LowerGuided below → (o : Options) (s : State) (p : Option Pending) → IsGuided (label.labelled_by settle below o s p)
+pub by-guided : (settle : Settling) → SettlesOnce settle → (below : Option label.Lower) → LowerGuided below → (o : Options) (s : State) (p : Option Pending) → IsGuided (label.labelled_by settle below o s p)
 by-guided settle once below h o s None = simple-guided (one s) (one-one s)
 by-guided settle once below h o s (Some p) = (guided-choice Any (tries settle below s p (alternatives_of o.value p.domain)) (tries-guided settle once below h s p (alternatives_of o.value p.domain))).guided
 

@@ -1,7 +1,6 @@
 -- Calls by name, as searches: as `Shared.Calls` of the meaning has them. What is built in makes no choice; what later stages of the language give is handed in. (Own.)
-use Rattle.std.specs.Prelude.{ℕ, ◌==◌, ◌&&◌, ◌||◌, Bool, false, cond, List, [], Option, Some, None, codes, option_map}
+use Rattle.std.specs.Prelude.{ℕ, Bool, false, cond, List, [], Option, Some, None, codes, option_map}
 use Rattle.std.specs.Option.{option_or}
-use Rattle.std.specs.Str.{bytes_eq}
 use Rattle.pi_terms.specs.Tree.{Tree, Trees, no_trees, tree, tree_count}
 use Rattle.pi_terms.specs.Copy.{copy, new_variables}
 use Rattle.pi_constraints.specs.State.{State, bindings, followed, next}
@@ -12,6 +11,7 @@ use Rattle.pi_effects.specs.Exception.{type_error}
 use Rattle.pi_effects.specs.Items.{each_tree}
 use Rattle.pi_effects.specs.BuiltIns.{built_in_predicate}
 use Rattle.pi_traces.specs.Trace.{end, Raise, done}
+use Rattle.pi_settling.specs.SolveCalls.{is_solve}
 use Rattle.pi_meaning.specs.Shared.View.{View}
 use Rattle.pi_meaning.specs.Shared.Settle.{settled}
 use Rattle.pi_meaning.specs.Shared.Builtin.{settled_effect}
@@ -22,22 +22,20 @@ use Rattle.pi_meaning.specs.CoreMeaning.Builtins.{Builtins}
 use Rattle.pi_meaning.specs.CoreMeaning.Instances.{is_called_by_name, built_later, whole}
 use Rattle.pi_resume_spec.specs.Resumed.{Search, simple, sequence, caught_search, ticked}
 use Rattle.pi_resume_spec.specs.Searches.{SearchLevel, bottom, above, plain_level, searches_at, too_deep}
+use Rattle.pi_resume_spec.specs.Solve.{solve_or_unknown}
 
 -- What later stages give. Of their goals labelling alone makes choices, so `solve` is handed in with its paths; every other one has an answer at most, and none.
 pub record LaterSearches : Type 0 where
   pub plain : Later
   pub solves : View → SearchLevel → List ℕ → Trees → State → Search State
 
-abbrev pub is_solve : List ℕ → ℕ → Bool
-is_solve name k = (k == 1 || k == 2) && bytes_eq name (codes "solve")
-
 -- what such a goal does
 abbrev pub later_search : LaterSearches → View → SearchLevel → List ℕ → Trees → State → Search State
 later_search later v l name ts s = cond (is_solve name (tree_count ts)) (later.solves v l name ts s) (simple (later.plain.predicate v (plain_level l) name ts s))
 
--- what is built of them: no goal of theirs makes choices
+-- what is built of them
 abbrev pub built_searches : LaterSearches
-built_searches = record { plain = built_later; solves = λ v l name ts s. simple (built_later.predicate v (plain_level l) name ts s) }
+built_searches = record { plain = built_later; solves = λ v l name ts s. solve_or_unknown l name ts s }
 
 pub record SearchSetting : Type 0 where
   pub view : View

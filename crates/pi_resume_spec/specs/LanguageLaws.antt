@@ -5,6 +5,7 @@ use Rattle.pi_constraints.specs.State.{State}
 use Rattle.pi_core.specs.GoalTree.{GoalTree}
 use Rattle.pi_core.specs.CoreTree.{backtracks, ClauseTree, PredTree, QueryTree}
 use Rattle.pi_traces.specs.Trace.{Trace, then, one, answers}
+use Rattle.pi_settling.specs.SolveCalls.{is_solve}
 use Rattle.pi_meaning.specs.Shared.Level.{Level}
 use Rattle.pi_meaning.specs.Shared.View.{View}
 use Rattle.pi_meaning.specs.CoreMeaning.Sound.{IsSound}
@@ -14,7 +15,7 @@ use Rattle.pi_meaning.specs.CoreMeaning.Run.{Solution, query_trace}
 use Rattle.pi_resume_spec.specs.Ways.{Way, Ways, Apart}
 use Rattle.pi_resume_spec.specs.Resumed.{Search, resumed, At, Leads, IsResumable}
 use Rattle.pi_resume_spec.specs.Searches.{Searches, SearchLevel, bottom, above, Spot, point_of, plain_level, without_paths}
-use Rattle.pi_resume_spec.specs.ByName.{LaterSearches, is_solve, built_searches, all_names}
+use Rattle.pi_resume_spec.specs.ByName.{LaterSearches, built_searches, all_names}
 use Rattle.pi_resume_spec.specs.Goals.{search}
 use Rattle.pi_resume_spec.specs.Queries.{query_search}
 

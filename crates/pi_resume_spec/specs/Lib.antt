@@ -2,6 +2,7 @@ pub mod Ways
 pub mod Resumed
 pub mod PathLaws
 pub mod Searches
+pub mod Solve
 pub mod ByName
 pub mod Goals
 pub mod Rules

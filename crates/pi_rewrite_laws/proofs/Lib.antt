@@ -21,6 +21,7 @@ pub mod RangeTurns
 pub mod RangeWalk
 pub mod StayLemmas
 pub mod SettlingStays
+pub mod SolveStays
 pub mod CollectionLemmas
 pub mod IteratorLemmas
 pub mod GatherLemmas
@@ -46,6 +47,7 @@ pub mod OwnLemmas
 pub mod HeadLemmas
 pub mod RuleLemmas
 pub mod AlikeLemmas
+pub mod SolveAlike
 pub mod LevelLemmas
 pub mod TextLevels
 pub mod TextPrograms

@@ -2,7 +2,7 @@
 use Rattle.std.proofs.Common.{◌≡◌, ℕ, Bool, true, false, cond, List, [], inl, inr, refl, sym, subst}
 use Rattle.std.specs.Prelude.{Option, Some, None, Ok, Err, option_map, unwrap_or, codes}
 use Rattle.std.specs.Option.{option_or}
-use Rattle.pi_terms.specs.Tree.{Tree, atom, comp, Trees, no_trees, tree, tree_count}
+use Rattle.pi_terms.specs.Tree.{Tree, Trees, no_trees, tree, tree_count}
 use Rattle.pi_terms.specs.Copy.{copy, new_variables}
 use Rattle.pi_constraints.specs.State.{State, next, bindings, followed}
 use Rattle.pi_constraints.specs.Unify.{unified}
@@ -14,8 +14,8 @@ use Rattle.pi_effects.specs.Rows.{done_by}
 use Rattle.pi_effects.specs.Items.{each_tree}
 use Rattle.pi_effects.proofs.BuiltInLemmas.{functions-make, predicates-unify}
 use Rattle.pi_core.specs.CoreTree.{PredTree}
-use Rattle.pi_traces.specs.Trace.{Trace, End, end, note, Deep, Tick, done, then}
-use Rattle.pi_traces.proofs.AnswerLemmas.{EachAnswer, each-map, each-then, each-caught}
+use Rattle.pi_traces.specs.Trace.{Trace, end, note, Deep, Tick, done, then}
+use Rattle.pi_traces.proofs.AnswerLemmas.{EachAnswer, each-caught}
 use Rattle.pi_settling.specs.CalmLaws.{FollowedStay}
 use Rattle.pi_settling.specs.DomainValues.{domain_functions}
 use Rattle.pi_settling.specs.Goals.{constraint_effect}
@@ -30,17 +30,14 @@ use Rattle.pi_meaning.specs.Shared.Names.{is_later_predicate, is_later_function,
 use Rattle.pi_meaning.specs.Shared.Given.{Later, Setting}
 use Rattle.pi_meaning.specs.Shared.Handling.{handled_in, handling}
 use Rattle.pi_meaning.specs.Shared.Calls.{unknown_name, given_later, predicate_given, predicate_called, function_later, function_given, function_called, Called, called_by, with_planner, is_known, known_called, call_goal, catch_called, again_called, term_called, called_at_level, first_called}
-use Rattle.pi_meaning.specs.CoreMeaning.Instances.{core_setting, built_later, whole}
+use Rattle.pi_meaning.specs.CoreMeaning.Instances.{core_setting, solve_or_unknown, built_later, whole}
 use Rattle.pi_meaning.proofs.Shared.ConstraintEffects.{LeavesSo, goals-leave}
 use Rattle.pi_rewrite_laws.specs.Roots.{RootsStay, RootsStayIn, LevelKeepsRoots, LaterKeepsRoots}
 use Rattle.pi_rewrite_laws.proofs.ElementLemmas.{roots-stay-itself}
-use Rattle.pi_rewrite_laws.proofs.StayLemmas.{roots-stay-then, new-variables-stay}
+use Rattle.pi_rewrite_laws.proofs.StayLemmas.{roots-stay-then, roots-by, new-variables-stay}
 use Rattle.pi_rewrite_laws.proofs.SettlingStays.{settling-stays}
+use Rattle.pi_rewrite_laws.proofs.SolveStays.{followed-by, solve-keeps}
 use Rattle.pi_rewrite_laws.proofs.RootGoals.{UnifyingKeepsRoots, each-of-all, all-of-each, calls-keep-roots, NamesKeepRoots}
-
-each-end : {A : Type 0} (P : A → Type 0) (e : End) → EachAnswer P (end e)
-unfolding EachAnswer
-each-end P e = tt
 
 -- ---- built-ins
 
@@ -102,9 +99,6 @@ Deeper = Tree → List Tree → State → Trace State
 
 abbrev DeeperKeeps : Deeper → Type 0
 DeeperKeeps f = (t : Tree) (more : List Tree) (s : State) → EachAnswer (RootsStay s) (f t more s)
-
-followed-by : (s : State) (t : Trace State) (f : State → Trace State) → EachAnswer (RootsStay s) t → ((r : State) → EachAnswer (RootsStay r) (f r)) → EachAnswer (RootsStay s) (then t f)
-followed-by s t f h each = each-then (RootsStay s) (RootsStay s) t f h (λ r k. each-map (RootsStay r) (RootsStay s) (λ q m. roots-stay-then s r q k m) (f r) (each r))
 
 goal-called : (l : Level) → LevelKeepsRoots l → (f : Deeper) → DeeperKeeps f → (t : Tree) (more : List Tree) (s : State) → EachAnswer (RootsStay s) (call_goal l f t more s)
 goal-called l h f keeps t more s = followed-by s ((calls_at l).drained s) (λ r. f t more r) ((calls-keep-roots l h).drained s) (λ r. keeps t more r)
@@ -173,9 +167,6 @@ first-keeps u set later (over c l) h (tree t ts) s = called-keeps u set later l 
 
 -- ---- what is built of later stages
 
-roots-by : (s r : State) → FollowedStay s r → RootsStay s r
-roots-by s r h = record { compounds = λ t f ts at. h t (comp f ts) (λ n e. cc) at; atoms = λ t name at. h t (atom name) (λ n e. cc) at }
-
 goal-keeps : (v : View) (s : State) (e : Effect) → LeavesSo (FollowedStay s) e → EachAnswer (RootsStay s) (settled_effect v s e)
 unfolding EachAnswer
 goal-keeps v s (Succeeds r) h = settling-stays s s r (roots-by s r h)
@@ -192,14 +183,14 @@ value-keeps s (Some (Err ball)) = tt
 
 pub built-later-keeps : LaterKeepsRoots built_later
 built-later-keeps = record {
-  predicates = λ v l h name ts s. all-of-each (RootsStay s) (built_later.predicate v l name ts s) (go v name ts s (constraint_effect name ts s) refl);
+  predicates = λ v l h name ts s. all-of-each (RootsStay s) (built_later.predicate v l name ts s) (go v l h name ts s (constraint_effect name ts s) refl);
   functions = λ name ts s. all-of-each (RootsStayIn s) (built_later.function name ts s) (value-keeps s (done_by domain_functions name ts s));
 }
   where
-    go : (v : View) (name : List ℕ) (ts : Trees) (s : State) (o : Option Effect) → constraint_effect name ts s ≡ o →
-        EachAnswer (RootsStay s) (unwrap_or (option_map (settled_effect v s) o) (unknown_name name (tree_count ts)))
-    go v name ts s None is = each-end (RootsStay s) _
-    go v name ts s (Some e) is =
+    go : (v : View) (l : Level) → LevelKeepsRoots l → (name : List ℕ) (ts : Trees) (s : State) (o : Option Effect) → constraint_effect name ts s ≡ o →
+        EachAnswer (RootsStay s) (unwrap_or (option_map (settled_effect v s) o) (solve_or_unknown l name ts s))
+    go v l h name ts s None is = solve-keeps l h name ts s
+    go v l h name ts s (Some e) is =
         goal-keeps v s e (goals-leave (FollowedStay s) s (λ t u r. within_keeps_followed s r t u) (λ t u r. notin_keeps_followed s r t u) (λ t r. posted_keeps_followed s r t) name ts e is)
 
 -- All names of the language keep roots.

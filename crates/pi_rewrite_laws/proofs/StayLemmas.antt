@@ -7,6 +7,7 @@ use Rattle.pi_terms.specs.Places.{Places, held}
 use Rattle.pi_constraints.specs.Value.{Bindings}
 use Rattle.pi_constraints.specs.State.{State, free, binding, bindings, followed_for, followed, with_new}
 use Rattle.pi_constraints.specs.Evaluation.{with_new_variables}
+use Rattle.pi_settling.specs.CalmLaws.{FollowedStay}
 use Rattle.pi_rewrite_laws.specs.Roots.{RootsStay}
 use Rattle.pi_rewrite_laws.proofs.ElementLemmas.{roots-stay-itself}
 
@@ -56,6 +57,10 @@ roots-stay s r less more = record {
 
 pub roots-stay-then : (s r q : State) → RootsStay s r → RootsStay r q → RootsStay s q
 roots-stay-then s r q a b = record { compounds = λ t f ts is. b.compounds t f ts (a.compounds t f ts is); atoms = λ t name is. b.atoms t name (a.atoms t name is) }
+
+-- so it is where each term that is followed to no variable stays
+pub roots-by : (s r : State) → FollowedStay s r → RootsStay s r
+roots-by s r h = record { compounds = λ t f ts at. h t (comp f ts) (λ n e. cc) at; atoms = λ t name at. h t (atom name) (λ n e. cc) at }
 
 held-more : (xs ys : Places) (n : ℕ) (u : Tree) → held xs n ≡ Some u → held (xs ++ ys) n ≡ Some u
 held-more [] ys n u is = absurd cc

@@ -9,6 +9,8 @@ pub mod Manners
 pub mod NeverAborts
 pub mod NoAborts
 pub mod NoAbortsGiven
+pub mod NoAbortsLevels
+pub mod NoAbortsSolve
 pub mod Refusing
 pub mod AskedTexts
 pub mod EventLemmas

@@ -26,7 +26,8 @@ use Rattle.pi_meaning.specs.CoreMeaning.Meaning.{Action, in_state, with_slot, af
 use Rattle.pi_meaning.specs.CoreMeaning.Rules.{guarded, chosen_rule, rule_before, rule_by, rules_by, rules, body_or_agent, pred_run, value_at, value_run, function_run, entered, call_run, application_run, calls_of, quiet_level, level_at}
 use Rattle.pi_meaning.specs.CoreMeaning.Run.{Solution, solution, told, answered_with, query_start, query_trace, IsRun}
 use Rattle.pi_top.proofs.NoAborts.{NoAbort, Anything, no-alt, no-then, no-first, no-negated, no-chosen, no-collected, no-counted, no-caught, no-cond, no-abort-cut}
-use Rattle.pi_top.proofs.NoAbortsGiven.{CallsSafe, IsSafe, calls-safe, no-settled_from, no-handled, BuiltinsSafe, whole-safe}
+use Rattle.pi_top.proofs.NoAbortsLevels.{CallsSafe, IsSafe, calls-safe, no-settled_from}
+use Rattle.pi_top.proofs.NoAbortsGiven.{no-handled, BuiltinsSafe, whole-safe}
 
 -- ---- goals
 

@@ -1,5 +1,5 @@
 -- Calls by name, of built-ins and of terms by `call`, don't end in an exception that no `catch` catches, where what they lead to doesn't, with what is built of later stages of the language.
-use Rattle.std.proofs.Common.{ℕ, zero, suc, Bool, List, [], Option, Some, None}
+use Rattle.std.proofs.Common.{ℕ, Bool, List, [], Option, Some, None}
 use Rattle.std.specs.Prelude.{option_map, unwrap_or}
 use Rattle.pi_terms.specs.Tree.{Tree, Trees, no_trees, tree, tree_count}
 use Rattle.pi_constraints.specs.State.{State}
@@ -10,55 +10,19 @@ use Rattle.pi_meaning.specs.Shared.View.{View}
 use Rattle.pi_meaning.specs.Shared.Within.{Within, a_query, a_body, is_body, resource_left}
 use Rattle.pi_settling.specs.DomainValues.{domain_function}
 use Rattle.pi_settling.specs.Goals.{constraint_effect}
-use Rattle.pi_settling.specs.Settled.{loaded}
-use Rattle.pi_settling.specs.Settle.{answer_with}
-use Rattle.pi_meaning.specs.Shared.Settle.{settlement, settled, settled_from}
+use Rattle.pi_meaning.specs.Shared.Settle.{settled}
 use Rattle.pi_meaning.specs.Shared.Handling.{handled_in, handling}
 use Rattle.pi_meaning.specs.Shared.Builtin.{written, function_trace, settled_effect}
 use Rattle.pi_meaning.specs.Shared.Given.{Setting}
 use Rattle.pi_meaning.specs.Shared.Calls.{built_in, given_later, predicate_given, predicate_called, function_later, function_given, Called, unknown_name, with_planner, known_called, call_goal, catch_called, again_called, term_called, called_at_level, called_below, first_called}
-use Rattle.pi_meaning.specs.Shared.Level.{Level, lowest, over, Calls, Applied, calls_at, or_called, or_applied}
+use Rattle.pi_meaning.specs.Shared.Level.{Level, lowest, over, Applied, calls_at, or_called, or_applied}
 use Rattle.pi_meaning.specs.CoreMeaning.Builtins.{Builtins, predicate_by, function_by}
-use Rattle.pi_meaning.specs.CoreMeaning.Instances.{built_later, whole, core_setting, predicate_or_call}
+use Rattle.pi_meaning.specs.CoreMeaning.Instances.{solve_or_unknown, built_later, whole, core_setting, predicate_or_call}
 use Rattle.pi_top.proofs.NoAborts.{NoAbort, Anything, NoneAborts, no-then, no-caught, no-cond, none-cond, none-or, none-map, none-some, none-none}
+use Rattle.pi_top.proofs.NoAbortsLevels.{IsSafe, calls-safe, no-settled}
+use Rattle.pi_top.proofs.NoAbortsSolve.{no-solve}
 
--- ---- levels
-
--- no call at this level, nor at a lower one, ends so
-pub record CallsSafe (c : Calls) : Type 0 where
-  pub called : (name : List ℕ) (ts : Trees) (s : State) → NoAbort Anything (c.called name ts s)
-  pub applied : (name : List ℕ) (ts : Trees) (s : State) → NoAbort Anything (c.applied name ts s)
-  pub drained : (s : State) → NoAbort Anything (c.drained s)
-
-abbrev pub IsSafe : Level → Type 0
-IsSafe (lowest c) = CallsSafe c
-IsSafe (over c l) = CallsSafe c × IsSafe l
-
-pub calls-safe : (l : Level) → IsSafe l → CallsSafe (calls_at l)
-unfolding NoAbort
-calls-safe (lowest c) safe = safe
-calls-safe (over c l) safe = safe.0
-
--- ---- what is settled, and what is handled
-
-no-loaded : (n : ℕ) (t : Trace State) → NoAbort Anything t → NoAbort Anything (loaded n t)
-unfolding loaded NoAbort
-no-loaded zero t a = a
-no-loaded (suc n) t a = a
-
-no-left : (o : Option State) → NoAbort Anything (answer_with o)
-unfolding NoAbort
-no-left None = tt
-no-left (Some r) = (tt, tt)
-
-pub no-settled : (before s : State) → NoAbort Anything (settled before s)
-unfolding settled
-no-settled before s = no-loaded (settlement before s).load (answer_with (settlement before s).left) (no-left (settlement before s).left)
-
-pub no-settled_from : (before : State) (o : Option State) → NoAbort Anything (settled_from before o)
-unfolding NoAbort
-no-settled_from before None = tt
-no-settled_from before (Some r) = no-settled before r
+-- ---- what is handled
 
 pub no-handled : {A : Type 0} (P : A → Type 0) (s : State) (ball : Tree) (handler : State → Trace A) (o : Option State) → ((r : State) → NoAbort P (handler r)) → NoAbort P (handled_in s ball handler o)
 unfolding NoAbort
@@ -116,17 +80,17 @@ unfolding NoneAborts
 no-or_else None t a b = b
 no-or_else (Some u) t a b = a
 
-no-built_predicate : (v : View) (l : Level) (name : List ℕ) (ts : Trees) (s : State) → NoAbort Anything (built_later.predicate v l name ts s)
-no-built_predicate v l name ts s =
-    no-or_else (option_map (settled_effect v s) (constraint_effect name ts s)) (unknown_name name (tree_count ts)) (none-map Anything _ (settled_effect v s) (no-settled_effect v s)) (no-unknown name (tree_count ts))
+no-built_predicate : (v : View) (l : Level) → IsSafe l → (name : List ℕ) (ts : Trees) (s : State) → NoAbort Anything (built_later.predicate v l name ts s)
+no-built_predicate v l safe name ts s =
+    no-or_else (option_map (settled_effect v s) (constraint_effect name ts s)) (solve_or_unknown l name ts s) (none-map Anything _ (settled_effect v s) (no-settled_effect v s)) (no-solve l safe name ts s)
 
 no-built_function : (name : List ℕ) (ts : Trees) (s : State) → NoAbort Anything (built_later.function name ts s)
 no-built_function name ts s = no-or_else (option_map function_trace (domain_function name ts s)) done (none-map Anything _ function_trace no-function) (no-done Anything)
 
-no-given : (v : View) (preds : List PredTree) (l : Level) (name : List ℕ) (ts : Trees) (s : State) → NoneAborts Anything (predicate_given (setting v preds) l name ts s)
+no-given : (v : View) (preds : List PredTree) (l : Level) → IsSafe l → (name : List ℕ) (ts : Trees) (s : State) → NoneAborts Anything (predicate_given (setting v preds) l name ts s)
 unfolding predicate_given
-no-given v preds l name ts s =
-    none-or Anything (built_in (setting v preds) name ts s) (given_later (setting v preds) l name ts s) (none-map Anything _ (settled_effect v s) (no-settled_effect v s)) (none-cond Anything _ (Some (built_later.predicate v l name ts s)) None (none-some Anything (built_later.predicate v l name ts s) (no-built_predicate v l name ts s)) (none-none Anything))
+no-given v preds l safe name ts s =
+    none-or Anything (built_in (setting v preds) name ts s) (given_later (setting v preds) l name ts s) (none-map Anything _ (settled_effect v s) (no-settled_effect v s)) (none-cond Anything _ (Some (built_later.predicate v l name ts s)) None (none-some Anything (built_later.predicate v l name ts s) (no-built_predicate v l safe name ts s)) (none-none Anything))
 
 no-function_given : (v : View) (preds : List PredTree) (name : List ℕ) (ts : Trees) (s : State) → NoneAborts Anything (function_given (setting v preds) name ts s)
 unfolding function_given
@@ -147,7 +111,7 @@ no-or_applied (Some t) l name ts s safe a = a
 
 no-called : (v : View) (preds : List PredTree) (l : Level) (name : List ℕ) (ts : Trees) (s : State) → IsSafe l → NoAbort Anything (predicate_called (setting v preds) l name ts s)
 unfolding predicate_called
-no-called v preds l name ts s safe = no-or_called (predicate_given (setting v preds) l name ts s) l name ts s safe (no-given v preds l name ts s)
+no-called v preds l name ts s safe = no-or_called (predicate_given (setting v preds) l name ts s) l name ts s safe (no-given v preds l safe name ts s)
 
 no-known : (v : View) (preds : List PredTree) (l : Level) (name : List ℕ) (ts : Trees) (s : State) → IsSafe l → NoAbort Anything (known_called (setting v preds) l name ts s)
 no-known v preds l name ts s safe =
@@ -211,6 +175,6 @@ pub record BuiltinsSafe (b : Builtins) : Type 0 where
 pub whole-safe : (v : View) (preds : List PredTree) → BuiltinsSafe (whole v built_later preds)
 whole-safe v preds = record {
   predicates = λ l safe name ts s. no-or_called (predicate_or_call (setting v preds) l name ts s) l name ts s safe
-      (none-cond Anything _ (Some (first_called (setting v preds) l ts s)) (predicate_given (setting v preds) l name ts s) (none-some Anything (first_called (setting v preds) l ts s) (no-first_called v preds l ts s safe)) (no-given v preds l name ts s));
+      (none-cond Anything _ (Some (first_called (setting v preds) l ts s)) (predicate_given (setting v preds) l name ts s) (none-some Anything (first_called (setting v preds) l ts s) (no-first_called v preds l ts s safe)) (no-given v preds l safe name ts s));
   functions = λ l safe name ts s. no-or_applied (function_given (setting v preds) name ts s) l name ts s safe (no-function_given v preds name ts s);
 }
