@@ -35,13 +35,13 @@ pub fn choices(
         return Ok(None);
     };
     match after {
-        None => Ok(Some(first(options.value, ends))),
+        None => Ok(Some(first_choice(options.value, ends))),
         Some(choice) => behind(alloc, options.value, d, choice),
     }
 }
 
 /// The first alternative of a domain with these ends.
-fn first(word: ValueWord, ends: Span) -> Choice
+pub fn first_choice(word: ValueWord, ends: Span) -> Choice
     requires low { IsWithinBounds ends.lo }
     requires high { IsWithinBounds ends.hi }
     ensures { (d : List Span) → IsDomain d → AreEnds d ends →
@@ -101,8 +101,9 @@ fn value(found: Option<i64>) -> Option<Choice>
     }
 }
 
-/// The alternative behind the lower half.
-fn upper_half(word: ValueWord, n: i64) -> Option<Choice>
+/// The alternative after the lower half, which ends at `n`: the upper one, and None where the word tries no half or tries the
+/// upper one first.
+pub fn upper_half(word: ValueWord, n: i64) -> Option<Choice>
     ensures { (d : List Span) → Follows (alternatives (value_word word) d) (Some (at_most n)) (option_map alternative_of result) }
 {
     match word {
@@ -113,8 +114,9 @@ fn upper_half(word: ValueWord, n: i64) -> Option<Choice>
     }
 }
 
-/// The alternative behind the upper half.
-fn lower_half(word: ValueWord, n: i64) -> Option<Choice>
+/// The alternative after the upper half, which begins above `n`: the lower one, and None where the word tries no half or tries
+/// the lower one first.
+pub fn lower_half(word: ValueWord, n: i64) -> Option<Choice>
     ensures { (d : List Span) → Follows (alternatives (value_word word) d) (Some (above n)) (option_map alternative_of result) }
 {
     match word {

@@ -4,13 +4,15 @@
 mod alternatives;
 mod fault;
 pub mod laws;
+mod named;
 mod options;
 mod picking;
 mod reading;
 mod words;
 
-pub use alternatives::{Choice, choices};
+pub use alternatives::{Choice, choices, first_choice, lower_half, upper_half};
 pub use fault::OptFault;
+pub use named::is_solve;
 pub use options::{Objective, Options, ValueWord, VariableWord};
 pub use picking::pick;
 pub use reading::read_options;

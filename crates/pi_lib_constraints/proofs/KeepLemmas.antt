@@ -97,7 +97,7 @@ item-at v (q ∷ rs) (x ∷ xs) (suc k) r h low e =
     let rest : ItemAt v xs k r = item-at v rs xs k r h.1 (omega (arith, low)) e in
     record { it = rest.it; is = rest.is; behind = rest.behind }
 
-none-behind : {M : Type 0} (v : StoreView M) (rs : List Ref) (xs : List Item) (k : ℕ) → AreRefsOf v rs xs → length rs ≤ k → drop k xs ≡ []
+pub none-behind : {M : Type 0} (v : StoreView M) (rs : List Ref) (xs : List Item) (k : ℕ) → AreRefsOf v rs xs → length rs ≤ k → drop k xs ≡ []
 none-behind v [] [] zero h l = refl
 none-behind v [] [] (suc k) h l = refl
 none-behind v [] (x ∷ xs) k h l = absurd h
@@ -160,7 +160,7 @@ root-int : (s : State) (x : Item) (i : ℤ) → followed (bindings s) (item_term
 root-int s (Item.Var n) i e = ap (item_of n) e
 root-int s (Item.Int j) i e = ap (λ (t : Tree). Item.Int (int-of t)) (sym (followed_other (bindings s) (int j) (λ m h. cc)) ∙ e)
 
-root-var : (s : State) (x : Item) (n : ℕ) → followed (bindings s) (item_term x) ≡ var n → root_item s x ≡ Item.Var n
+pub root-var : (s : State) (x : Item) (n : ℕ) → followed (bindings s) (item_term x) ≡ var n → root_item s x ≡ Item.Var n
 root-var s (Item.Var m) n e = ap (item_of m) e
 root-var s (Item.Int j) n e = absurd (let same : int j ≡ var n = sym (followed_other (bindings s) (int j) (λ m h. cc)) ∙ e in cc)
 
@@ -215,7 +215,7 @@ pub left-none : (s : State) (n : ℕ) (kept left : List Span) → held (bindings
 unfolding values_of
 left-none s n kept left none is empty = kept-is s n kept left none is ∙ ap (λ (e : List Span). with_values s n left (values_of e)) empty
 
-left-by : (s r : State) (n : ℕ) (left : List Span) (least : ℤ) (vs : List ℤ) → values_of left ≡ vs → IsDomain left → IsTrue (has_value left least) → (size_of left ≡ 1 → r ≡ with_binding s n (int least)) → (2 ≤ size_of left → r ≡ with_domain s n left) →
+pub left-by : (s r : State) (n : ℕ) (left : List Span) (least : ℤ) (vs : List ℤ) → values_of left ≡ vs → IsDomain left → IsTrue (has_value left least) → (size_of left ≡ 1 → r ≡ with_binding s n (int least)) → (2 ≤ size_of left → r ≡ with_domain s n left) →
     with_values s n left vs ≡ Some r
 left-by s r n left least [] at up has one more = absurd (not_both (has_value left least) has (no_value left least at))
 left-by s r n left least (i ∷ []) at up has one more =

@@ -3,7 +3,7 @@ use Rattle.std.specs.Prelude.{◌≡◌, ◌⊎◌, ℕ, zero, suc, ◌<◌, ◌
 use Rattle.std.proofs.Common.{arith, sym, ◌∙◌, ap, subst, inl, inr, append_assoc, append-nil}
 use Rattle.std.proofs.lemmas.List.{take_more, take_all}
 use Rattle.std.proofs.lemmas.List.Elements.{Contains-get_or}
-use Rattle.pi_terms.specs.Tree.{Tree, var, atom, comp, args, no_trees, tree}
+use Rattle.pi_terms.specs.Tree.{Tree, var, int, atom, comp, args, no_trees, tree}
 use Rattle.pi_terms.specs.Places.{held}
 use Rattle.pi_terms.specs.Variables.{Occurs}
 use Rattle.pi_constraints.specs.declared.constraint.Constraint.{Constraint}
@@ -20,7 +20,7 @@ use Rattle.pi_constraints.specs.State.{State, IsState, Variable, free, within, b
 use Rattle.pi_constraints.specs.Store.{StoreView, IsTerm, Stays, Confines, ShowsCell}
 use Rattle.pi_constraints.specs.Value.{Bindings, IsAcyclic, value, rounds, replaced_once}
 use Rattle.pi_constraints.proofs.CommonLemmas.{size_of-cons}
-use Rattle.pi_constraints.proofs.FollowLemmas.{followed_itself, followed_unbound, followed_below}
+use Rattle.pi_constraints.proofs.FollowLemmas.{followed_itself, followed_unbound, followed_below, followed_other}
 use Rattle.pi_constraints.proofs.StateLemmas.{variable, held_is, domain_good, bound_below}
 use Rattle.pi_prop_spec.specs.Places.{places_of, sum_places}
 use Rattle.pi_settling.specs.Confined.{with_default, confined_at, confined}
@@ -50,6 +50,7 @@ use Rattle.pi_prop_spec.proofs.PostingLemmas.{postings_may_be_posted}
 use Rattle.pi_unify.proofs.KeepsLemmas.{keeps_none}
 use Rattle.pi_lib.specs.Outcomes.{ShowsOutcome}
 use Rattle.pi_lib.specs.declared.predicates.Outcome.{Outcome}
+use Rattle.pi_lib_constraints.specs.Kept.{item_term}
 use Rattle.pi_lib_constraints.specs.Posts.{fault_of, MayPostAll}
 
 pub stays_none : {M : Type 0} (v : StoreView M) → Stays v v
@@ -273,6 +274,21 @@ default-given v w a n m d is e at below root empty confines =
     let made : m < next s = (subst (SpeaksBelow (next s)) root (followed_below (next s) b (var n) (λ k u h. bound_below s k u is h) below)) m refl in
     let given : w.now.state ≡ with_domain s m d = (confines m (var n) at is.acyclic root (made, unbound) (subst (λ (x : List Span). 2 ≤ size_of x) (sym e) two-values)).state in
     given ∙ (ap (with_domain s m) e ∙ (sym (empty-default s m (variable s m) is refl unbound empty) ∙ sym (ap (λ (t : Tree). confined_at s (item_of n t)) root)))
+
+-- ---- of one item
+
+pub item-stays : {M : Type 0} (v : StoreView M) (s : State) (x : Item) (cell : Cell) → ShowsCell v (followed (bindings s) (item_term x)) cell → ((m : ℕ) → cell ≡ Cell.Var m → ⊥) → s ≡ confined_at s (root_item s x)
+item-stays v s (Item.Var n) cell shows other = other-stays v s n cell shows other
+item-stays v s (Item.Int i) cell shows other = refl
+
+pub filled-item : (s : State) (x : Item) (m : ℕ) → followed (bindings s) (item_term x) ≡ var m → 0 < length (stored s m) → s ≡ confined_at s (root_item s x)
+filled-item s (Item.Var n) m e h = filled-stays s n m e h
+filled-item s (Item.Int i) m e h = refl
+
+pub item-given : {M : Type 0} (v w : StoreView M) (a : Ref) (x : Item) (m : ℕ) (d : List Span) → IsState v.now.state → d ≡ all_values → IsTerm v a (item_term x) → SpeaksBelow (next v.now.state) (item_term x) →
+    followed (bindings v.now.state) (item_term x) ≡ var m → length (stored v.now.state m) ≡ 0 → Confines v w a d → w.now.state ≡ confined_at v.now.state (root_item v.now.state x)
+item-given v w a (Item.Var n) m d is e at below root empty confines = default-given v w a n m d is e at below root empty confines
+item-given v w a (Item.Int i) m d is e at below root empty confines = absurd (let same : int i ≡ var m = sym (followed_other (bindings v.now.state) (int i) (λ k h. cc)) ∙ root in cc)
 
 -- ---- the parts of a posting
 

@@ -8,8 +8,8 @@ ghost use Rattle.pi_lib_constraints.specs.Kept.{LeadsToVariable};
 use pi_constraints::{Domain, MAX_VALUE, Ref, Span, StateStore};
 use std::alloc::{AllocError, Global};
 
-/// All values that a domain can have.
-pub(crate) fn default_domain(alloc: Global) -> Result<Domain, AllocError>
+/// All values that a domain can have: the domain of a variable of a constraint or a labelling that was given none. (Own.)
+pub fn default_domain(alloc: Global) -> Result<Domain, AllocError>
     ensures { IfOk result (λ made. made ≡ all_values) }
 {
     let mut spans = Vec::new(alloc);

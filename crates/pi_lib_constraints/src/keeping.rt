@@ -85,12 +85,17 @@ fn keep_variable<S: StateStore>(
     let Some(least) = min(&left) else {
         return Ok(false);
     };
-    write(s, at, &left, least)?;
+    leave_values(s, at, &left, least)?;
     Ok(true)
 }
 
-/// Binds a variable to the one value that is left, or gives it those that are.
-fn write<S: StateStore>(s: &mut S, at: Ref, left: &Domain, least: i64) -> Result<(), AllocError>
+/// Binds an unbound variable to the one value that is left, or gives it those that are. An `Err` stands for want of memory. (Own.)
+pub fn leave_values<S: StateStore>(
+    s: &mut S,
+    at: Ref,
+    left: &Domain,
+    least: i64,
+) -> Result<(), AllocError>
     ensures keeps { Keeps (S.seen s.old) (S.seen s.new) }
     ensures domain { IsDomain left.now }
     ensures one { OnOk result ((n : ℕ) → IsState (S.seen s.old).now.state → LeadsToVariable (S.seen s.old) at n →
@@ -100,7 +105,7 @@ fn write<S: StateStore>(s: &mut S, at: Ref, left: &Domain, least: i64) -> Result
 {
     let _spans = left.spans();
     if size(left) == 1 {
-        fix(s, at, least)?;
+        bind_to_integer(s, at, least)?;
         return Ok(());
     }
     let _root = s.look(at);
@@ -108,8 +113,8 @@ fn write<S: StateStore>(s: &mut S, at: Ref, left: &Domain, least: i64) -> Result
     Ok(())
 }
 
-/// Binds a variable to an integer.
-fn fix<S: StateStore>(s: &mut S, at: Ref, n: i64) -> Result<(), AllocError>
+/// Binds an unbound variable to an integer. An `Err` stands for want of memory. (Own.)
+pub fn bind_to_integer<S: StateStore>(s: &mut S, at: Ref, n: i64) -> Result<(), AllocError>
     ensures keeps { Keeps (S.seen s.old) (S.seen s.new) }
     ensures ok { OnOk result ((m : ℕ) → IsState (S.seen s.old).now.state → LeadsToVariable (S.seen s.old) at m →
         (S.seen s.new).now.state ≡ with_binding (S.seen s.old).now.state m (int n)) }

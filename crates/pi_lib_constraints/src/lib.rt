@@ -2,11 +2,11 @@
 #![tactic(auto)]
 
 mod defaults;
+mod flattening;
 mod functions;
 mod goals;
 mod keeping;
 mod kinds;
-mod leaves;
 mod lookup;
 mod others;
 mod posting;
@@ -15,7 +15,11 @@ mod sides;
 mod values;
 mod within;
 
+pub use defaults::default_domain;
+pub use flattening::leaves;
 pub use functions::{DomainFunction, call_domain_function};
 pub use goals::call_constraint;
+pub use keeping::{bind_to_integer, leave_values};
 pub use kinds::{ConstraintGoal, GoalOfOne, GoalOfTwo};
 pub use lookup::{constraint_named, domain_function_named};
+pub use posting::confine_at;

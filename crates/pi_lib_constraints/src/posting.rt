@@ -1,6 +1,6 @@
 //! Goals that post constraints.
 ghost use Rattle.std.specs.Prelude.{◌≡◌, ℕ, ◌<◌, ◌+◌, IfOk, Contains, List};
-ghost use Rattle.pi_terms.specs.Tree.{Tree, var};
+ghost use Rattle.pi_terms.specs.Tree.{Tree};
 ghost use Rattle.pi_constraints.specs.declared.constraint.Constraint.{Constraint};
 ghost use Rattle.pi_constraints.specs.declared.constraint.Item.{Item};
 ghost use Rattle.pi_constraints.specs.Constraint.{SpeaksOf, HoldVariable, IsWithinLimits};
@@ -15,6 +15,7 @@ ghost use Rattle.pi_settling.specs.Confined.{confined, confined_at};
 ghost use Rattle.pi_settling.specs.Posted.{posting_goal, posted_in, with_constraints, places_of_all};
 ghost use Rattle.pi_settling.specs.Roots.{root_item, all_values};
 ghost use Rattle.pi_lib.specs.Outcomes.{ShowsOutcome};
+ghost use Rattle.pi_lib_constraints.specs.Kept.{item_term};
 ghost use Rattle.pi_lib_constraints.specs.Posts.{fault_of, MayPostAll};
 
 use crate::defaults::default_domain;
@@ -148,22 +149,19 @@ fn confine<S: StoredDomains>(s: &mut S, item: Item, default: &Domain) -> Result<
         Item::Int(_) => Ok(()),
         Item::Var(v) => {
             let at = s.var_ref(v);
-            confine_variable(s, at, default)?;
+            confine_at(s, at, default)?;
             Ok(())
         }
     }
 }
 
-/// Gives a variable that isn't bound and has no domain the default one.
-fn confine_variable<S: StoredDomains>(
-    s: &mut S,
-    at: Ref,
-    default: &Domain,
-) -> Result<(), AllocError>
+/// Gives an item that comes to a variable which isn't bound and has no domain the default one. An `Err` stands for want of
+/// memory. (Own.)
+pub fn confine_at<S: StoredDomains>(s: &mut S, at: Ref, default: &Domain) -> Result<(), AllocError>
     ensures keeps { Keeps (S.seen s.old) (S.seen s.new) }
-    ensures ok { IfOk result (λ _. (n : ℕ) → IsState (S.seen s.old).now.state → default.now ≡ all_values →
-        IsTerm (S.seen s.old) at (var n) →
-        (S.seen s.new).now.state ≡ confined_at (S.seen s.old).now.state (root_item (S.seen s.old).now.state (Item.Var n))) }
+    ensures ok { IfOk result (λ _. (x : Item) → IsState (S.seen s.old).now.state → default.now ≡ all_values →
+        IsTerm (S.seen s.old) at (item_term x) →
+        (S.seen s.new).now.state ≡ confined_at (S.seen s.old).now.state (root_item (S.seen s.old).now.state x)) }
 {
     let Cell::Var(n) = s.look(at) else {
         return Ok(());

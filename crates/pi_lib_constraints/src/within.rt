@@ -6,8 +6,8 @@ ghost use Rattle.pi_constraints.specs.Store.{IsTerm, Keeps};
 ghost use Rattle.pi_lib.specs.Outcomes.{ShowsOutcome, outcome_of};
 ghost use Rattle.pi_settling.specs.Within.{within_goal, notin_goal};
 
+use crate::flattening::leaves;
 use crate::keeping::keep_all;
-use crate::leaves::leaves;
 use crate::others::all_but;
 use crate::sides::side_domain;
 use pi_constraints::{Ref, StoredDomains};

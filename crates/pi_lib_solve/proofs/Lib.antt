@@ -1,0 +1,6 @@
+pub mod AskLemmas
+pub mod ChoiceLemmas
+pub mod ConfineLemmas
+pub mod NarrowLemmas
+pub mod PickLemmas
+pub mod ValueLemmas
