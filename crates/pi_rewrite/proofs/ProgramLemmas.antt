@@ -11,12 +11,12 @@ use Rattle.pi_meaning.specs.CoreMeaning.Rules.{level_at}
 use Rattle.pi_meaning.specs.CoreMeaning.Defined.{ProgramCallsDefined, NamesAreFree}
 use Rattle.pi_meaning.specs.OverNames.Stages.{LaterStages, built_stages}
 use Rattle.pi_meaning.specs.OverNames.Run.{program_level}
-use Rattle.pi_rewrite_spec.specs.Forms.{Knows}
-use Rattle.pi_rewrite_laws.specs.Levels.{SameCalls, SameLevels, GoesByCalls}
+use Rattle.pi_rewrite_laws.specs.Levels.{SameCalls, SameLevels}
 use Rattle.pi_rewrite_laws.specs.Laws.{known_of, KeepsMeaning, ProgramsAreKept}
 use Rattle.pi_rewrite_spec.specs.Programs.{Naming, core_program}
 use Rattle.pi_rewrite_laws.proofs.AlikeLemmas.{calls-same}
 use Rattle.pi_rewrite_laws.proofs.RootNames.{built-later-keeps}
+use Rattle.pi_rewrite_laws.proofs.SolveAlike.{built-goes-by-calls}
 use Rattle.pi_rewrite_sound.specs.Built.{unbuilt_part}
 use Rattle.pi_rewrite_sound.specs.TermCalls.{GivesBuilt, ProgramAllows}
 use Rattle.pi_rewrite_sound.specs.Within.{IsWithin}
@@ -24,12 +24,8 @@ use Rattle.pi_rewrite_sound.specs.LaterLaws.{LevelsAreTheSame}
 use Rattle.pi_rewrite_sound.specs.Laws.{AreNames, LoweredProgramsAreSound, LoweredProgramsAreClosed, LoweredProgramsArePlain}
 use Rattle.pi_rewrite.specs.Laws.{CallsTheSame, IsLoweredProgram}
 
--- what is built asks for no call
-pub goes-by-nothing : (known : Knows) → GoesByCalls known built_stages.calls
-goes-by-nothing known v l m same name ts s = refl
-
 pub built-gives : GivesBuilt built_stages.calls
-built-gives = record { goals = λ v l name ts s is. refl; functions = λ name ts s is. refl }
+built-gives = record { goals = λ v l name ts s is. refl; labelling = λ v l name ts s is. refl; functions = λ name ts s is. refl }
 
 levels-allowed : LevelsAreTheSame → (program : ProgramTree) → unbuilt_part program ≡ None → (v : View) (later : LaterStages) → ProgramAllows later program → (d : ℕ) →
     program_level v built_stages program d ≡ program_level v later program d
@@ -44,7 +40,7 @@ calls-kept levels program built preds kept = record {
   where
     same : (v : View) (d : ℕ) → SameLevels (known_of program) (level_at (whole v built_later preds) preds d) (program_level v built_stages program d)
     same v d = subst (λ (ps : List PredTree). SameLevels (known_of program) (level_at (whole v built_later ps) ps d) (program_level v built_stages program d)) (append-nil preds)
-        (kept.calls [] tt v built_stages (goes-by-nothing (known_of program)) built-later-keeps d)
+        (kept.calls [] tt v built_stages (built-goes-by-calls (known_of program)) built-later-keeps d)
 
     at : (v : View) (d : ℕ) → SameCalls (known_of program) (calls_at (level_at (whole v built_later preds) preds d)) (calls_at (program_level v built_stages program d))
     at v d = calls-same (known_of program) (level_at (whole v built_later preds) preds d) (program_level v built_stages program d) (same v d)

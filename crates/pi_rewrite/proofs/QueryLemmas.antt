@@ -14,13 +14,14 @@ use Rattle.pi_rewrite_laws.specs.Laws.{known_of, AreNew, GoalsAreKept}
 use Rattle.pi_rewrite_spec.specs.Programs.{Naming, core_query}
 use Rattle.pi_rewrite_laws.specs.Within.{IsAsked}
 use Rattle.pi_rewrite_laws.proofs.RootNames.{built-later-keeps}
+use Rattle.pi_rewrite_laws.proofs.SolveAlike.{built-goes-by-calls}
 use Rattle.pi_rewrite_sound.specs.Built.{unbuilt_part, is_built_goal}
 use Rattle.pi_rewrite_sound.specs.TermCalls.{Allows}
 use Rattle.pi_rewrite_sound.specs.Within.{IsWithin}
 use Rattle.pi_rewrite_sound.specs.LaterLaws.{GoalsAreTheSame}
 use Rattle.pi_rewrite_sound.specs.Laws.{AreNames, QueryFits, LoweredQueriesAreSound}
 use Rattle.pi_rewrite.specs.Laws.{IsCoreProgram, IsLoweredProgram, MeansTheSame, IsLowered}
-use Rattle.pi_rewrite.proofs.ProgramLemmas.{goes-by-nothing, built-gives}
+use Rattle.pi_rewrite.proofs.ProgramLemmas.{built-gives}
 use Rattle.pi_rewrite.proofs.CutLemmas.{same-meaning-runs-the-same}
 
 goals-allowed : GoalsAreTheSame → (program : ProgramTree) (goal : ExpTree) → unbuilt_part program ≡ None → is_built_goal goal ≡ true → (v : View) (later : LaterStages) → Allows later program goal → (d : ℕ) (p : Place) →
@@ -38,7 +39,7 @@ whole-means keeps program goal preds within asked core other names new =
 query-means : GoalsAreKept → GoalsAreTheSame → (program : ProgramTree) (goal : ExpTree) (preds : List PredTree) → IsWithin program → unbuilt_part program ≡ None → IsAsked program goal → is_built_goal goal ≡ true →
     IsCoreProgram program preds → (other : Naming) → AreNames program other → AreNew preds other → MeansTheSame program goal preds (core_query other goal)
 query-means keeps goals program goal preds within built asked built_goal core other names new v later allows d s =
-    whole-means keeps program goal preds within asked core other names new v built_stages (goes-by-nothing (known_of program)) built-later-keeps d s
+    whole-means keeps program goal preds within asked core other names new v built_stages (built-goes-by-calls (known_of program)) built-later-keeps d s
     ∙ ap (told_trace (place_told (answer_names goal))) (goals-allowed goals program goal built built_goal v later allows d (at_state beginning s))
 
 pub query-kept : GoalsAreKept → GoalsAreTheSame → LoweredQueriesAreSound → (program : ProgramTree) (goal : ExpTree) (preds : List PredTree) → IsWithin program → unbuilt_part program ≡ None →

@@ -5,9 +5,9 @@ use Rattle.std.specs.Str.{bytes_eq}
 use Rattle.std.proofs.lemmas.Bool.{false≢true, and_parts, or_cases, eqb-true}
 use Rattle.pi_effects.specs.BuiltIns.{is_predicate}
 use Rattle.pi_syntax.specs.Names.{kind_of}
-use Rattle.pi_meaning.specs.Shared.Effects.{is_effect_name, is_value_name}
+use Rattle.pi_meaning.specs.Shared.Effects.{is_built_name, is_value_name}
 use Rattle.pi_meaning.specs.Shared.Names.{is_catch, is_call, is_later_predicate, is_given_predicate, is_given_function}
-use Rattle.pi_meaning.proofs.Shared.EffectNames.{effect-given, value-given}
+use Rattle.pi_meaning.proofs.Shared.EffectNames.{value-given}
 use Rattle.pi_syntax.specs.ExpTree.{ExpTree, var, ExpTrees, no_exps, exp}
 use Rattle.pi_syntax.specs.Signature.{exp_count}
 use Rattle.pi_meaning.specs.OverNames.Texts.{iterated}
@@ -19,6 +19,7 @@ use Rattle.pi_prog_clauses.specs.Places.{asked, expression}
 use Rattle.pi_rewrite_sound.specs.Built.{is_own, is_prelude_kind, is_built_predicate, is_boolean_sign, is_built_function, is_built_value_call, is_built_form, is_built_atom, is_variable, is_assigned}
 use Rattle.pi_rewrite_spec.specs.Forms.{Knows, IsFunctionCall, IsPredicateCall, IsAtomGoal, IsAssigned}
 use Rattle.pi_rewrite_sound.proofs.KnownCalls.{AreKnown, goal-known}
+use Rattle.pi_rewrite_sound.proofs.NameLemmas.{built-given}
 use Rattle.pi_rewrite_sound.proofs.PlainNames.{is_no_expression, has_places, own-form, term-plain, sign-no_expression, function-built-plain}
 use Rattle.pi_rewrite_sound.proofs.CallPlaces.{place_behind}
 
@@ -40,8 +41,8 @@ or-second false b h = h
 
 pub predicate-there : (defined : List Named) (known : Knows) → Has defined known → (name : List ℕ) (k : ℕ) → is_built_predicate name k ≡ true → AreKnown defined (goal_calls name k) →
     IsTrue (is_given_predicate name k || known.predicate name k)
-predicate-there defined known has name k built calls = elim (or_cases (is_effect_name name k) (is_own name k || is_prelude_kind (kind_of name k)) built) [
-  | inl given ↦ or-first (is_given_predicate name k) (known.predicate name k) (or-second (is_call name k) (is_predicate name k || is_later_predicate name k) (effect-given name k given))
+predicate-there defined known has name k built calls = elim (or_cases (is_built_name name k) (is_own name k || is_prelude_kind (kind_of name k)) built) [
+  | inl given ↦ or-first (is_given_predicate name k) (known.predicate name k) (or-second (is_call name k) (is_predicate name k || is_later_predicate name k) (built-given name k given))
   | inr rest ↦ or-second (is_given_predicate name k) (known.predicate name k) (elim (or_cases (is_own name k) (is_prelude_kind (kind_of name k)) rest) [
     | inl own ↦ has.predicate name k own (goal-known defined name k (own-form name k own) calls)
     | inr written ↦ has.prelude name k written

@@ -1,4 +1,4 @@
--- Names that may be called where goals and expressions are built: those of the tables, goals of constraints, functions of domains, and others than what later stages give.
+-- Names that may be called where goals and expressions are built: those of the tables, goals of constraints, `solve`, functions of domains, and others than what later stages give.
 use Rattle.std.proofs.Common.{◌≡◌, ℕ, Bool, true, false, cond, List, refl, sym, ◌∙◌, ap}
 use Rattle.std.specs.Prelude.{◌&&◌, ◌||◌, not, Option, Some, None, is_none, codes}
 use Rattle.std.proofs.lemmas.Bool.{and_parts, or_parts}
@@ -18,7 +18,8 @@ use Rattle.pi_syntax.specs.declared.builtin.BuiltinKind.{BuiltinKind}
 use Rattle.pi_syntax.specs.declared.builtin.BuiltinKind.TheVariants.{Predicate, Function, Prelude}
 use Rattle.pi_settling.specs.DomainValues.{is_domain_function}
 use Rattle.pi_settling.specs.Goals.{is_constraint_goal}
-use Rattle.pi_meaning.specs.Shared.Effects.{is_effect_name, is_value_name}
+use Rattle.pi_settling.specs.SolveCalls.{is_solve}
+use Rattle.pi_meaning.specs.Shared.Effects.{is_effect_name, is_built_name, is_value_name}
 use Rattle.pi_meaning.specs.Shared.Names.{is_later_predicate, is_later_function}
 use Rattle.pi_meaning.specs.OverNames.Kinds.{is_unwritten, means_function, means_predicate, means_prelude}
 use Rattle.pi_meaning.proofs.OverNames.BuiltInNames.{names-have-their-kinds}
@@ -58,10 +59,12 @@ own-kinds name k own =
 not-later : (name : List ℕ) (k : ℕ) → means_predicate name k ≡ false → is_later_predicate name k ≡ false
 not-later name k h = (or_parts (is_later_predicate name k) _ (or_parts (is_predicate name k) _ h).1).0
 
--- a predicate is of the tables, or a goal of constraints, or no later stage gives it
-pub predicate-by : {C : Type 0} (name : List ℕ) (k : ℕ) → is_built_predicate name k ≡ true → (is_predicate name k ≡ true → C) → (is_constraint_goal name k ≡ true → C) → (is_later_predicate name k ≡ false → C) → C
-predicate-by name k built f p g =
-    by-which (is_effect_name name k) (is_own name k || is_prelude_kind (kind_of name k)) built (λ h. by-which (is_predicate name k) (is_constraint_goal name k) h f p)
+-- a predicate is of the tables, or a goal of constraints, or `solve`, or no later stage gives it
+pub predicate-by : {C : Type 0} (name : List ℕ) (k : ℕ) → is_built_predicate name k ≡ true → (is_predicate name k ≡ true → C) → (is_constraint_goal name k ≡ true → C) → (is_solve name k ≡ true → C) →
+    (is_later_predicate name k ≡ false → C) → C
+predicate-by name k built f p labels g =
+    by-which (is_built_name name k) (is_own name k || is_prelude_kind (kind_of name k)) built
+    (λ h. by-which (is_effect_name name k) (is_solve name k) h (λ effect. by-which (is_predicate name k) (is_constraint_goal name k) effect f p) labels)
     (λ h. by-which (is_own name k) (is_prelude_kind (kind_of name k)) h
     (λ own. g (not-later name k (own-kinds name k own).1))
     (λ other. g (not-later name k (no-predicate (means_function name k) (means_predicate name k) (means_prelude name k) (sym (ap is_prelude_kind (names-have-their-kinds name k)) ∙ other)))))

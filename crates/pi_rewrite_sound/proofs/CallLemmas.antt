@@ -58,6 +58,7 @@ predicate-alike v defines x y a b l name ts s built =
     predicate-by name k built
     (λ listed. effect-first (settled_effect v s) o _ _ (predicates-listed name ts s ∙ listed))
     (λ posts. ap (λ t. option_or (option_map (settled_effect v s) o) (cond (is_later_predicate name k) (Some t) None)) (a.goals v l name ts s posts ∙ sym (b.goals v l name ts s posts)))
+    (λ labels. ap (λ t. option_or (option_map (settled_effect v s) o) (cond (is_later_predicate name k) (Some t) None)) (a.labelling v l name ts s labels ∙ sym (b.labelling v l name ts s labels)))
     (λ other. ap (option_or (option_map (settled_effect v s) o)) (not-asked (is_later_predicate name k) (x.predicate v l name ts s) (y.predicate v l name ts s) other)) in
     λ i. or_called (same i) l name ts s
 

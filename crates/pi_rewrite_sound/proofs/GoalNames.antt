@@ -1,11 +1,12 @@
--- Names of goals of constraints and of functions of domains, told apart by tests of names.
-use Rattle.std.proofs.Common.{◌≡◌, ℕ, Bool, true, false, List, [], ◌∷◌, refl}
+-- Names of goals of constraints, of functions of domains and of `solve`, told apart by tests of names.
+use Rattle.std.proofs.Common.{◌≡◌, ◌<◌, ℕ, zero, suc, Bool, true, false, List, [], ◌∷◌, refl, arith}
 use Rattle.std.specs.Prelude.{◌==◌, ◌&&◌, ◌||◌, codes}
 use Rattle.std.specs.Str.{bytes_eq}
 use Rattle.std.proofs.lemmas.Bool.{and_parts}
 use Rattle.pi_effects.specs.Rows.{has_line}
 use Rattle.pi_settling.specs.DomainValues.{domain_functions, is_domain_function}
 use Rattle.pi_settling.specs.Goals.{constraint_goals, is_constraint_goal}
+use Rattle.pi_settling.specs.SolveCalls.{solve_calls, is_solve}
 use Rattle.pi_meaning.specs.OverNames.Forms.{is_constraint, is_connective}
 use Rattle.pi_meaning.proofs.Shared.TableLemmas.{Test, one-of, each-spelled, body-holds, each-line, lines-hold}
 use Rattle.pi_rewrite_sound.specs.Built.{is_boolean_sign}
@@ -80,3 +81,17 @@ function-named name k h =
 
 pub function_tested : (name : List ℕ) (k : ℕ) → is_function_named name k ≡ is_domain_function name k
 function_tested name k = same-tests (is_function_named name k) (is_domain_function name k) (function-named name k) (named-function name k)
+
+-- ---- `solve`
+
+neither : (b : Bool) → ((b && false) || ((b && false) || false)) ≡ false
+neither true = refl
+neither false = refl
+
+-- no call with more than two arguments labels
+pub no-solve : (name : List ℕ) (k : ℕ) → 2 < k → is_solve name k ≡ false
+unfolding has_line solve_calls
+no-solve name zero h = absurd (omega (arith, h))
+no-solve name (suc zero) h = absurd (omega (arith, h))
+no-solve name (suc (suc zero)) h = absurd (omega (arith, h))
+no-solve name (suc (suc (suc k))) h = neither (bytes_eq (codes "solve") name)

@@ -4,7 +4,7 @@ use Rattle.std.specs.Prelude.{Option, Some, None, IsTrue, ◌||◌, ◌&&◌}
 use Rattle.std.proofs.lemmas.Bool.{false≢true, and_parts, or_left, or_right}
 use Rattle.pi_syntax.specs.ExpTree.{ExpTrees, no_exps, exp}
 use Rattle.pi_core.specs.GoalTree.{truth, fail, call}
-use Rattle.pi_meaning.specs.Shared.Effects.{is_effect_name, is_value_name}
+use Rattle.pi_meaning.specs.Shared.Effects.{is_built_name, is_value_name}
 use Rattle.pi_meaning.specs.Shared.Names.{is_call, is_given_predicate, is_given_function}
 use Rattle.pi_meaning.specs.CoreMeaning.Defined.{is_machine_predicate}
 use Rattle.pi_meaning.specs.OverNames.Texts.{places, places_all}
@@ -73,7 +73,7 @@ module _ (known : Knows) (name : List ℕ) (k : ℕ) (are : Type 0) (are_built :
       let first : (goal 0 ≡ true) × ((value 1 && goal 2) ≡ true) = and_parts (goal 0) (value 1 && goal 2) built in
       let rest : (value 1 ≡ true) × (goal 2 ≡ true) = and_parts (value 1) (goal 2) first.1 in
       good-catching (good.values 1 is.1 rest.0) (good.goals 0 is.0 first.0) (good.goals 2 is.2 rest.1)
-  good-goal-call (Some by_term) term is built = good-called name k (good.all is built) good.long (λ may allows. allows.machine name k (or_left (is_call name k) (is_effect_name name k) (term refl)))
+  good-goal-call (Some by_term) term is built = good-called name k (good.all is built) good.long (λ may allows. allows.machine name k (or_left (is_call name k) (is_built_name name k) (term refl)))
   good-goal-call (Some membership) term is built = absurd (false≢true built)
 
 pub good-atom : (known : Knows) (name : List ℕ) (is_true is_fail : Bool) → IsAtomGoal known is_true is_fail name → (is_true || (is_fail || is_built_predicate name 0)) ≡ true →

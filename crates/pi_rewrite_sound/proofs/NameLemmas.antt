@@ -12,11 +12,12 @@ use Rattle.pi_effects.specs.BuiltIns.{tests, other_predicates, is_predicate, is_
 use Rattle.pi_syntax.specs.Tokens.{is_one_of}
 use Rattle.pi_settling.specs.DomainValues.{is_domain_function}
 use Rattle.pi_settling.specs.Goals.{constraint_goals, is_constraint_goal}
-use Rattle.pi_meaning.specs.Shared.Effects.{is_effect_name, is_value_name}
+use Rattle.pi_settling.specs.SolveCalls.{solve_calls, is_solve}
+use Rattle.pi_meaning.specs.Shared.Effects.{is_effect_name, is_built_name, is_value_name}
 use Rattle.pi_meaning.specs.Shared.Names.{later_predicates, is_later_predicate, is_later_function, is_resource, is_call, is_planner, is_given_predicate, is_given_function}
 use Rattle.pi_meaning.specs.CoreMeaning.Defined.{is_machine_predicate}
 use Rattle.pi_syntax.specs.Names.{function_rows, predicate_rows, prelude_rows, kind_of}
-use Rattle.pi_meaning.proofs.Shared.TableLemmas.{same-name, one-of, each-spelled, spellings-hold, each-signed, signatures-hold}
+use Rattle.pi_meaning.proofs.Shared.TableLemmas.{same-name, one-of, each-spelled, spellings-hold, each-signed, signatures-hold, body-holds, each-line, lines-hold}
 use Rattle.pi_meaning.proofs.Shared.EffectNames.{effect-given, value-given}
 use Rattle.pi_rewrite_sound.specs.Built.{is_own, is_prelude_kind, is_built_predicate, is_boolean_sign, is_built_function}
 
@@ -37,16 +38,17 @@ later-theirs name k is = signatures-hold (λ n j. is_theirs n j) later_predicate
 -- of what is given, or what a program has, and may be called
 pub predicate-there : (name : List ℕ) (k : ℕ) (known : Bool) → IsTrue (is_given_predicate name k || known) → may_be_called name k ≡ true → IsTrue known ⊎ IsTrue (is_machine_predicate name k)
 predicate-there name k known there may =
-    go (is_call name k) (is_predicate name k) (is_constraint_goal name k) (is_later_predicate name k) known (is_own name k || is_prelude_kind (kind_of name k)) (later-theirs name k) there may
+    go (is_call name k) (is_predicate name k) (is_constraint_goal name k) (is_solve name k) (is_later_predicate name k) known (is_own name k || is_prelude_kind (kind_of name k)) (later-theirs name k) there may
   where
-    go : (by_term table posts later known other : Bool) → (later ≡ true → not other ≡ true) → IsTrue ((by_term || (table || later)) || known) → (by_term || ((table || posts) || other)) ≡ true →
-        IsTrue known ⊎ IsTrue (by_term || (table || posts))
-    go true table posts later known other theirs there may = inr refl
-    go false true posts later known other theirs there may = inr refl
-    go false false true later known other theirs there may = inr refl
-    go false false false true known true theirs there may = absurd (false≢true (theirs refl))
-    go false false false true known false theirs there may = absurd (false≢true may)
-    go false false false false known other theirs there may = inl there
+    go : (by_term table posts labels later known other : Bool) → (later ≡ true → not other ≡ true) → IsTrue ((by_term || (table || later)) || known) → (by_term || (((table || posts) || labels) || other)) ≡ true →
+        IsTrue known ⊎ IsTrue (by_term || ((table || posts) || labels))
+    go true table posts labels later known other theirs there may = inr refl
+    go false true posts labels later known other theirs there may = inr refl
+    go false false true labels later known other theirs there may = inr refl
+    go false false false true later known other theirs there may = inr refl
+    go false false false false true known true theirs there may = absurd (false≢true (theirs refl))
+    go false false false false true known false theirs there may = absurd (false≢true may)
+    go false false false false false known other theirs there may = inl there
 
 -- ---- functions
 
@@ -105,7 +107,7 @@ abbrev no_machine : List ℕ → ℕ → Bool
 no_machine name k = not (is_machine_predicate name k)
 
 planners-not : OfPlanners no_machine
-unfolding is_predicate constraint_goals has_line tests comparing_tests kind_tests writing_predicates other_predicates
+unfolding is_predicate constraint_goals solve_calls has_line tests comparing_tests kind_tests writing_predicates other_predicates
 planners-not = ((refl, refl, refl), (refl, refl, refl))
 
 planners-given : OfPlanners is_given_predicate
@@ -125,8 +127,19 @@ planner-given name k is = planner-is is_given_predicate planners-given name k is
 
 -- ---- what the machine has is given
 
+solve-later : (name : List ℕ) (k : ℕ) → is_solve name k ≡ true → is_later_predicate name k ≡ true
+unfolding solve_calls each-line body-holds is_later_predicate later_predicates
+solve-later name k is = lines-hold is_later_predicate solve_calls refl name k is
+
+pub built-given : (name : List ℕ) (k : ℕ) → is_built_name name k ≡ true → (is_predicate name k || is_later_predicate name k) ≡ true
+built-given name k is = one-of (is_effect_name name k) (is_solve name k) _ (effect-given name k) (λ labels. second (is_predicate name k) (is_later_predicate name k) (solve-later name k labels)) is
+  where
+    second : (a b : Bool) → b ≡ true → (a || b) ≡ true
+    second true b h = refl
+    second false b h = h
+
 pub machine-given : (name : List ℕ) (k : ℕ) → IsTrue (is_machine_predicate name k) → IsTrue (is_given_predicate name k)
-machine-given name k is = go (is_call name k) (is_effect_name name k) (is_predicate name k || is_later_predicate name k) (effect-given name k) is
+machine-given name k is = go (is_call name k) (is_built_name name k) (is_predicate name k || is_later_predicate name k) (built-given name k) is
   where
     go : (a b c : Bool) → (b ≡ true → c ≡ true) → IsTrue (a || b) → IsTrue (a || c)
     go true b c f h = refl

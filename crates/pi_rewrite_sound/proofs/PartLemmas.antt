@@ -17,6 +17,7 @@ use Rattle.pi_effects.specs.Texts.{text_functions, writing_predicates}
 use Rattle.pi_effects.specs.Making.{making_functions}
 use Rattle.pi_settling.specs.DomainValues.{domain_functions}
 use Rattle.pi_settling.specs.Goals.{constraint_goals}
+use Rattle.pi_settling.specs.SolveCalls.{solve_calls}
 use Rattle.pi_effects.specs.BuiltIns.{reading_functions, tests, other_predicates, is_predicate, is_function}
 use Rattle.pi_syntax.specs.Names.{function_rows, predicate_rows, prelude_rows, kind_of}
 use Rattle.pi_meaning.specs.OverNames.WrittenRules.{rules_of}
@@ -61,7 +62,7 @@ both-built (p ∷ ps) qs h rest = (h.0, both-built ps qs h.1 rest)
 -- those of the prelude
 pub prelude-built : PartsAreBuilt prelude
 unfolding PartsAreBuilt calls_terms some_call_terms prelude exp_count form_of is_built_pattern are_built_patterns is_built_value are_built_values is_built_value_at is_built_goal_at is_built_goal are_built_goals
-    is_predicate constraint_goals is_function domain_functions has_line tests comparing_tests kind_tests writing_predicates other_predicates reading_functions making_functions integer_functions collection_functions sorting_functions index_functions
+    is_predicate constraint_goals solve_calls is_function domain_functions has_line tests comparing_tests kind_tests writing_predicates other_predicates reading_functions making_functions integer_functions collection_functions sorting_functions index_functions
     range_functions naming_functions text_functions kind_of function_rows predicate_rows prelude_rows
 prelude-built = ((refl, refl), ((refl, refl), ((refl, refl), ((refl, refl), ((refl, refl), ((refl, refl), ((refl, refl), ((refl, refl), ((refl, refl), ((refl, refl), tt))))))))))
 

@@ -21,6 +21,7 @@ use Rattle.pi_syntax.specs.Names.{function_rows, predicate_rows, prelude_rows, r
 use Rattle.pi_syntax.specs.declared.builtin.BuiltinKind.{BuiltinKind}
 use Rattle.pi_syntax.specs.Tokens.{is_one_of}
 use Rattle.pi_settling.specs.DomainValues.{domain_functions, is_domain_function}
+use Rattle.pi_settling.specs.SolveCalls.{solve_calls, is_solve}
 use Rattle.pi_meaning.specs.Shared.Effects.{is_value_name}
 use Rattle.pi_meaning.specs.Shared.Names.{is_catch, is_call}
 use Rattle.pi_meaning.specs.OverNames.Forms.{Reading, is_constraint, is_connective, is_within, readings, is_find_all, is_count_all}
@@ -68,6 +69,10 @@ unfolding is_function reading_functions integer_functions collection_functions s
 function-plain name k found =
     let P : Test = λ n j. is_plain_function n j in
     one-of (has_line reading_functions name k) (has_line making_functions name k) (P name k) (lines-hold P reading_functions refl name k) (lines-hold P making_functions refl name k) found
+
+pub solve-plain : (name : List ℕ) (k : ℕ) → is_solve name k ≡ true → is_plain name k ≡ true
+unfolding solve_calls each-line body-holds readings is_goal_sign is_membership is_reified
+solve-plain name k found = lines-hold (λ n j. is_plain n j) solve_calls refl name k found
 
 -- ---- names of the prelude
 

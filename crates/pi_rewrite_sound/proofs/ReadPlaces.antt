@@ -5,10 +5,11 @@ use Rattle.std.specs.Str.{bytes_eq}
 use Rattle.std.proofs.lemmas.Bool.{false≢true, and_parts, or_cases, not-true, eqb-true}
 use Rattle.pi_effects.specs.BuiltIns.{is_predicate}
 use Rattle.pi_settling.specs.Goals.{constraint_goals, is_constraint_goal}
+use Rattle.pi_settling.specs.SolveCalls.{is_solve}
 use Rattle.pi_syntax.specs.ExpTree.{ExpTree, ExpTrees, no_exps, exp}
 use Rattle.pi_syntax.specs.Names.{kind_of}
 use Rattle.pi_syntax.specs.Signature.{exp_count}
-use Rattle.pi_meaning.specs.Shared.Effects.{is_effect_name}
+use Rattle.pi_meaning.specs.Shared.Effects.{is_effect_name, is_built_name}
 use Rattle.pi_meaning.specs.OverNames.Forms.{Reading, plain, operand, boolean, ranged, is_constraint, is_connective, is_within, readings, first_reading, later_readings, operand_readings, is_operand_node, is_sum}
 use Rattle.pi_meaning.proofs.Shared.TableLemmas.{Test, one-of, each-spelled, each-below, body-holds, each-line, lines-hold}
 use Rattle.pi_prog_clauses.specs.Operators.{is_goal_sign, is_membership, is_reified}
@@ -16,7 +17,7 @@ use Rattle.pi_prog_clauses.specs.Places.{Place, goal, asked, expression, iterato
 use Rattle.pi_rewrite_spec.specs.Values.{stays}
 use Rattle.pi_rewrite_sound.specs.Built.{is_own, is_prelude_kind, is_built_predicate}
 use Rattle.pi_rewrite_sound.proofs.CallPlaces.{plain-place}
-use Rattle.pi_rewrite_sound.proofs.PlainNames.{has_places, no-readings, are_plain, is_plain, listed, spelled, predicate-plain, prelude-plain, own-plain}
+use Rattle.pi_rewrite_sound.proofs.PlainNames.{has_places, no-readings, are_plain, is_plain, listed, spelled, predicate-plain, solve-plain, prelude-plain, own-plain}
 
 -- ---- each argument
 
@@ -148,8 +149,10 @@ plain-reads name k h = go (is_connective name k) (not (has_places name k)) (read
 
 built-reads : (name : List ℕ) (k : ℕ) → is_built_predicate name k ≡ true → connects_or_reads name k ≡ true
 built-reads name k built =
-    one-of (is_effect_name name k) _ (connects_or_reads name k)
+    one-of (is_built_name name k) _ (connects_or_reads name k)
+    (one-of (is_effect_name name k) (is_solve name k) (connects_or_reads name k)
     (one-of (is_predicate name k) (is_constraint_goal name k) (connects_or_reads name k) (λ h. plain-reads name k (predicate-plain name k h)) (goal-reads name k))
+    (λ h. plain-reads name k (solve-plain name k h)))
     (one-of (is_own name k) (is_prelude_kind (kind_of name k)) (connects_or_reads name k) (λ h. plain-reads name k (own-plain name k h)) (λ h. plain-reads name k (prelude-plain name k h))) built
 
 fit-plain : (name : List ℕ) (k : ℕ) → has_places name k ≡ false → (rs : List Reading) → are_expressions rs ≡ true → (es : ExpTrees) → Fit name k 0 rs es

@@ -1,6 +1,6 @@
--- Which parts of a program and which goals are built, by what is written alone: all forms but events, labelling and what planning gives (and what no text without a fault has:
+-- Which parts of a program and which goals are built, by what is written alone: all forms but events and what planning gives (and what no text without a fault has:
 -- `V@P` behind `$`, an assignment of what is no variable, a variable of a pattern without a name). Loops and comprehensions are built where what stands in them is. A name that is called is
--- one of the tables of built-in predicates and functions, a goal of constraints, a function of domains, one of the prelude's predicates, or one that the language doesn't give. (Own.)
+-- one of the tables of built-in predicates and functions, a goal of constraints, `solve`, a function of domains, one of the prelude's predicates, or one that the language doesn't give. (Own.)
 use Rattle.std.specs.Prelude.{ℕ, zero, suc, ◌+◌, Bool, true, false, not, ◌&&◌, ◌||◌, cond, if◌then◌else◌, List, [], ◌∷◌, Option, Some, None, is_none, codes}
 use Rattle.std.specs.Str.{bytes_eq}
 use Rattle.pi_syntax.specs.Forms.{is_form}
@@ -10,7 +10,7 @@ use Rattle.pi_syntax.specs.ExpTree.{ExpTree, var, int, atom, str, list, list_ont
 use Rattle.pi_syntax.specs.ProgramTree.{RuleTree, FunctionTree, WrittenClause, rule, function, fact, PartTree, ProgramTree}
 use Rattle.pi_syntax.specs.Signature.{exp_count}
 use Rattle.pi_syntax.specs.declared.program.Decl.{Decl}
-use Rattle.pi_meaning.specs.Shared.Effects.{is_effect_name, is_value_name}
+use Rattle.pi_meaning.specs.Shared.Effects.{is_built_name, is_value_name}
 use Rattle.pi_meaning.specs.OverNames.WrittenRules.{head_arguments}
 use Rattle.pi_meaning.specs.OverNames.Texts.{iterated}
 use Rattle.pi_meaning.specs.OverNames.Forms.{Form, negation, once, assignment, catch, by_term, membership, form_of, is_constraint, is_connective, is_find_all, is_count_all}
@@ -28,7 +28,7 @@ is_prelude_kind (Some BuiltinKind.Function) = false
 is_prelude_kind (Some BuiltinKind.Prelude) = true
 
 abbrev pub is_built_predicate : List ℕ → ℕ → Bool
-is_built_predicate name k = is_effect_name name k || (is_own name k || is_prelude_kind (kind_of name k))
+is_built_predicate name k = is_built_name name k || (is_own name k || is_prelude_kind (kind_of name k))
 
 -- a sign between constraints, or a relation of constraints: as an expression it stays as structure between such signs, and a text without a fault has it nowhere else
 abbrev pub is_boolean_sign : List ℕ → ℕ → Bool

@@ -1,4 +1,4 @@
--- What is built, and calls no term, means the same whatever labelling, events, planner calls and agents do, where goals of constraints and functions of domains do what is built. (Own.)
+-- What is built, and calls no term, means the same whatever events, planner calls and agents do, where goals of constraints, labelling and functions of domains do what is built. (Own.)
 use Rattle.std.specs.Prelude.{◌≡◌, ℕ, true, false, None}
 use Rattle.pi_syntax.specs.ExpTree.{ExpTree}
 use Rattle.pi_syntax.specs.ProgramTree.{ProgramTree}

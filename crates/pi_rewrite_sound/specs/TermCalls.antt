@@ -8,6 +8,7 @@ use Rattle.pi_syntax.specs.ProgramTree.{RuleTree, FunctionTree, WrittenClause, r
 use Rattle.pi_syntax.specs.Signature.{exp_count}
 use Rattle.pi_settling.specs.DomainValues.{is_domain_function}
 use Rattle.pi_settling.specs.Goals.{is_constraint_goal}
+use Rattle.pi_settling.specs.SolveCalls.{is_solve}
 use Rattle.pi_meaning.specs.Shared.View.{View}
 use Rattle.pi_meaning.specs.Shared.Level.{Level}
 use Rattle.pi_meaning.specs.Shared.Names.{is_call}
@@ -77,13 +78,15 @@ CallNoTerms program goal = (program_calls_terms program ≡ false) × (calls_ter
 
 -- ---- what is said of them
 
--- goals of constraints and functions of domains do what is built
+-- goals of constraints, labelling and functions of domains do what is built, labelling at each level
 pub record GivesBuilt (later : Later) : Type 0 where
   pub goals : (v : View) (l : Level) (name : List ℕ) (ts : Trees) (s : State) → is_constraint_goal name (tree_count ts) ≡ true →
       later.predicate v l name ts s ≡ built_later.predicate v l name ts s
+  pub labelling : (v : View) (l : Level) (name : List ℕ) (ts : Trees) (s : State) → is_solve name (tree_count ts) ≡ true →
+      later.predicate v l name ts s ≡ built_later.predicate v l name ts s
   pub functions : (name : List ℕ) (ts : Trees) (s : State) → is_domain_function name (tree_count ts) ≡ true → later.function name ts s ≡ built_later.function name ts s
 
--- A program means the same whatever labelling, events and planner calls do; where it calls terms, that is said of what it means where these aren't there: so far they are unknown to
+-- A program means the same whatever events and planner calls do; where it calls terms, that is said of what it means where these aren't there: so far they are unknown to
 -- `call`.
 abbrev pub ProgramAllows : LaterStages → ProgramTree → Type 0
 ProgramAllows later program = ((program_calls_terms program ≡ false) × GivesBuilt later.calls) ⊎ (later ≡ built_stages)

@@ -3,19 +3,21 @@ ghost use Rattle.std.specs.Prelude.{◌≡◌};
 ghost use Rattle.pi_effects.specs.BuiltIns.{is_function as is_function_name, is_predicate as is_predicate_name};
 ghost use Rattle.pi_settling.specs.DomainValues.{is_domain_function};
 ghost use Rattle.pi_settling.specs.Goals.{is_constraint_goal};
+ghost use Rattle.pi_settling.specs.SolveCalls.{is_solve};
 ghost use Rattle.pi_syntax.specs.Names.{kind_of as kind_in_tables};
 ghost use Rattle.pi_rewrite_sound.specs.Built as spec;
 
+use pi_label::is_solve as is_solve_named;
 use pi_lib_builtin::{function_named, predicate_named};
 use pi_rewrite_slots::Reading;
 use pi_syntax::{BuiltinKind, is_form, kind_of};
 
-/// Whether a predicate of this name may be called: one that is built in, a goal of constraints, one of the prelude, or of the
-/// program.
+/// Whether a predicate of this name may be called: one that is built in, a goal of constraints, `solve`, one of the prelude, or
+/// of the program.
 pub(crate) fn is_built_predicate(name: &str, count: usize) -> bool
     ensures { result ≡ spec.is_built_predicate name.now count }
 {
-    (is_predicate(name, count) | is_constraint_goal(name, count))
+    ((is_predicate(name, count) | is_constraint_goal(name, count)) | is_solve(name, count))
         | (is_own(name, count) | is_of_prelude(name, count))
 }
 
@@ -84,6 +86,16 @@ fn is_constraint_goal(name: &str, count: usize) -> bool
         | ((count == 2) & ((name == "::") | (name == "notin"))
             | ((count == 1) & ((name == "all_different") | (name == "all_distinct"))
                 | ((count == 3) & (name == "element"))))
+}
+
+/// Whether a call of this name labels.
+fn is_solve(name: &str, count: usize) -> bool
+    ensures { result ≡ is_solve name.now count }
+{
+    match u32::try_from(count) {
+        Ok(count) => is_solve_named(name, count),
+        Err(_) => false,
+    }
 }
 
 /// Whether a function of domains has this name.
