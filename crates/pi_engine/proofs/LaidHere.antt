@@ -9,6 +9,7 @@ use Rattle.pi_core.specs.GoalTree.{GoalTree, truth, fail, tick, call, apply, seq
 use Rattle.pi_core.specs.GoalCells.{kind_of, cell_of, flat}
 use Rattle.pi_core.specs.CoreTree.{pred_tree}
 use Rattle.pi_meaning.specs.CoreMeaning.Sound.{SlotsBelow, NamesBelow}
+use Rattle.pi_settling.specs.SolveCalls.{is_solve}
 use Rattle.pi_meaning.specs.Shared.Names.{is_call}
 use Rattle.pi_meaning.specs.CoreMeaning.Defined.{CallsDefined}
 use Rattle.pi_core.specs.declared.goal_node.GoalCell.{GoalCell}
@@ -85,6 +86,9 @@ node-reads ps terms code k (Node.Constrain g m first arity) is known =
 node-reads ps terms code k (Node.DomainValue f m first arity slot) is known =
     ap (λ name. GoalKind.Apply name (operand_trees (tables_for ps terms code) first arity) slot) (name-read (tables_for ps terms code) m is.0 is.3)
     ∙ ap (λ us. GoalKind.Apply is.0 us slot) (operands-taken ps terms code first arity is.1 is.4 is.6) ∙ sym is.2
+node-reads ps terms code k (Node.Solve m first arity) is known =
+    ap (λ name. GoalKind.Call name (operand_trees (tables_for ps terms code) first arity)) (name-read (tables_for ps terms code) m is.0 is.3)
+    ∙ ap (GoalKind.Call is.0) (operands-taken ps terms code first arity is.1 is.4 is.6) ∙ sym is.2
 node-reads ps terms code k (Node.CallTerm first arity) is known = ap (GoalKind.Call (codes "call")) (operands-taken ps terms code first arity is.0 is.2 is.4) ∙ sym is.1
 
 -- the slots that a kind of goal names are below n
@@ -165,6 +169,10 @@ node-readable ps terms code b k (Node.DomainValue f m first arity slot) is below
       subst (λ n. IsDomainFunctionNamed n arity f) (sym (name-read (tables_for ps terms code) m is.0 is.3)) (subst (λ n. IsDomainFunctionNamed is.0 n f) (sym is.4) is.5),
       all.1,
     )
+node-readable ps terms code b k (Node.Solve m first arity) is below = (
+  built-readable ps terms code b first arity is.1 is.4 is.6 (subst (KindBelow b.count) is.2 below),
+  subst (λ n. is_solve n arity ≡ true) (sym (name-read (tables_for ps terms code) m is.0 is.3)) (subst (λ n. is_solve is.0 n ≡ true) (sym is.4) is.5),
+)
 node-readable ps terms code b k (Node.CallTerm first arity) is below =
     (built-readable ps terms code b first arity is.0 is.2 is.4 (subst (KindBelow b.count) is.1 below), ap (is_call (codes "call")) is.2 ∙ is.3)
 
@@ -356,6 +364,7 @@ has-number ps (Node.BuiltIn built m first arity) is = tt
 has-number ps (Node.BuiltInValue built m first arity slot) is = tt
 has-number ps (Node.Constrain g m first arity) is = tt
 has-number ps (Node.DomainValue f m first arity slot) is = tt
+has-number ps (Node.Solve m first arity) is = tt
 has-number ps (Node.CallTerm first arity) is = tt
 
 pub have-numbers : (ps : List CorePred) (steps : List Step) → AreResolved ps steps → (i : ℕ) (s : Step) → slice_get steps i ≡ Some s → HasNumber (map pred_tree ps) s.node

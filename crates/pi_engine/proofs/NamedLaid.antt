@@ -10,7 +10,7 @@ use Rattle.pi_constraints.specs.Store.{Terms}
 use Rattle.pi_constraints.proofs.KeepsLemmas.{var-below}
 use Rattle.pi_core.specs.GoalTree.{GoalTree, truth, fail, tick, call, apply, seq, alternatives, if_else, not, once, collect, count, catch, subgoals}
 use Rattle.pi_core.specs.CoreTree.{PredTree, pred_tree, find_pred}
-use Rattle.pi_meaning.specs.Shared.Effects.{is_effect_name, is_value_name}
+use Rattle.pi_meaning.specs.Shared.Effects.{is_built_name, is_value_name}
 use Rattle.pi_meaning.specs.Shared.Names.{is_call, is_catch}
 use Rattle.pi_meaning.specs.CoreMeaning.Sound.{NamesBelow, SlotsBelow}
 use Rattle.pi_meaning.specs.CoreMeaning.Defined.{is_machine_predicate, CallsDefined}
@@ -49,7 +49,7 @@ calls-there preds g all = record {
 }
 
 call-there : (preds : List PredTree) (args : List Tree) → is_call (codes "call") (length args) ≡ true → CallIsThere preds (call (codes "call") args)
-call-there preds args is = inr (ap (λ b. b || is_effect_name (codes "call") (length args)) is)
+call-there preds args is = inr (ap (λ b. b || is_built_name (codes "call") (length args)) is)
 
 -- one after the other
 two : {X : Type 0} (P : X → Type 0) (x y : X) → P x → P y → All P (x ∷ y ∷ [])
@@ -70,11 +70,11 @@ either-call : (a b : Bool) → b ≡ true → (a || b) ≡ true
 either-call true b h = refl
 either-call false b h = h
 
-name-there : (preds : List PredTree) (name : List ℕ) (k : ℕ) (args : List Tree) → length args ≡ k → (is_effect_name name k || is_called_by_name (find_pred false name k preds)) ≡ true → CallIsThere preds (call name args)
+name-there : (preds : List PredTree) (name : List ℕ) (k : ℕ) (args : List Tree) → length args ≡ k → (is_built_name name k || is_called_by_name (find_pred false name k preds)) ≡ true → CallIsThere preds (call name args)
 name-there preds name k args many there =
     subst (λ n. IsSome (find_pred false name n preds) ⊎ IsTrue (is_machine_predicate name n)) (sym many)
-    (elim (there-by (is_effect_name name k) (is_called_by_name (find_pred false name k preds)) there) [
-      | inl built ↦ inr (either-call (is_call name k) (is_effect_name name k) built)
+    (elim (there-by (is_built_name name k) (is_called_by_name (find_pred false name k preds)) there) [
+      | inl built ↦ inr (either-call (is_call name k) (is_built_name name k) built)
       | inr called ↦ inl (some-found (find_pred false name k preds) called)
     ])
 

@@ -19,8 +19,9 @@ use Rattle.pi_engine.specs.declared.turns.Outcome.{Outcome as CodeOutcome}
 use Rattle.pi_meaning.specs.Machine.Budget.{Counts}
 use Rattle.pi_meaning.specs.Machine.Built.{AreOfRules}
 use Rattle.pi_meaning.specs.Machine.Configuration.{Frame, Config, config, going, telling, failed, raising, Now as NowData}
-use Rattle.pi_engine_stands.specs.Fails.{IsEnded, ComesTo, Fails}
+use Rattle.pi_engine_stands.specs.Fails.{IsEnded, ComesTo, ComesBy, Fails}
 use Rattle.pi_engine_stands.specs.Raises.{Raises}
+use Rattle.pi_engine_stands.specs.Views.{Fits}
 use Rattle.pi_engine_stands.specs.Goes.{counted, IsAt, Goes, IsSpent, TicksOn, IsIn, counting}
 use Rattle.pi_meaning.specs.Machine.Leads.{Leads}
 use Rattle.pi_meaning.specs.Machine.Next.{Tells, some_ticks}
@@ -31,7 +32,7 @@ use Rattle.pi_engine.specs.Spends.{Spends}
 use Rattle.pi_engine.specs.Turns.{AreCutShort, Counted, StepIs, StepStops, IsRunning}
 use Rattle.pi_engine.specs.Happens.{AreTicksAndLoads, sum_of_loads}
 use Rattle.pi_engine.proofs.CountLemmas.{count-some}
-use Rattle.pi_engine_stands.proofs.GoalsGo.{is-at, none-counted, unspent, silent-goes}
+use Rattle.pi_engine_stands.proofs.GoalsGo.{is-at, none-counted, unspent, silent-goes, silent-ticks, ticks-to}
 use Rattle.pi_meaning.proofs.Machine.LeadLemmas.{leads-none, leads-on, step-ends, step-writes, good-writing}
 use Rattle.pi_engine_stands.proofs.PointsDone.{GoesSilently}
 use Rattle.pi_engine_stands.specs.Changes.{change}
@@ -181,12 +182,27 @@ fails-step : (v : View) (preds : List PredTree) (names : List NameSlot) (c : Con
 unfolding step
 fails-step v preds names c is = ap (λ x. step v preds names (config x c.stack)) is
 
-pub fails-is : {M : Type 0} (w after : World M) (v : View) (names : List NameSlot) (mode : Mode) (b : Budget) (now : Now) (c : Config) → w.loaded ≡ after.loaded → IsIn v names w Now.Failing c → Fails (change w after now) → StepIs v names mode b b after now c CodeOutcome.More
-fails-is w after v names mode b now c same is fails =
-    let to : ComesTo after now (fail_step c.stack) = fails c.stack (below-lies w c.now c.stack is.is.entries) in
-    more-is v names mode b after now c
-    (comes-to-goes v names after now c (fail_step c.stack) (subst (λ l. AreOfRules l.preds) same is.rules) is.good (fails-step v after.loaded.preds names c (failing-is w c.now Now.Failing refl is.is.runs)) to)
-    (comes-to-unspent after mode b now (fail_step c.stack) to)
+comes-by-on : {M : Type 0} (v : View) (names : List NameSlot) (mode : Mode) (old new : Budget) (after : World M) (now : Now) (c : Config) (o : Outcome) → AreOfRules after.loaded.preds → IsGood c → step v after.loaded.preds names c ≡ o → Fits mode v →
+    ComesBy (counting mode old new) after now o → TicksOn v names mode old new after now c
+comes-by-on v names mode old new after now c (silently d) rules good is fits comes =
+    subst (λ b. TicksOn v names mode old b after now c) (sym comes.0)
+    (silent-ticks v names mode old after now c (silent-goes v names after now c d rules good is (is-at v names after now d comes.1)) (unspent after mode old now d comes.1))
+comes-by-on v names mode old new after now c (with_tick d) rules good is fits comes = ticks-to v names mode old new after now c d rules good is fits comes
+comes-by-on v names mode old new after now c (quietly d) rules good is fits never = absurd never
+comes-by-on v names mode old new after now c (deeper d) rules good is fits never = absurd never
+comes-by-on v names mode old new after now c (loading n d) rules good is fits never = absurd never
+comes-by-on v names mode old new after now c (writing text d) rules good is fits never = absurd never
+comes-by-on v names mode old new after now c (answering x d) rules good is fits never = absurd never
+comes-by-on v names mode old new after now c (ending e) rules good is fits comes =
+    subst (λ b. TicksOn v names mode old b after now c) (sym comes.0)
+    (silent-ticks v names mode old after now c (ends-so v names after now c e rules good is comes.1) (ended-unspent mode old now e comes.1))
+
+pub fails-is : {M : Type 0} (w after : World M) (v : View) (names : List NameSlot) (mode : Mode) (old new : Budget) (now : Now) (c : Config) → w.loaded ≡ after.loaded → Fits mode v → Counts mode old new → IsIn v names w Now.Failing c →
+    Fails (counting mode old new) (change w after now) → StepIs v names mode old new after now c CodeOutcome.More
+fails-is w after v names mode old new now c same fits counts is fails =
+    ticks-is v names mode old new after now c counts
+    (comes-by-on v names mode old new after now c (fail_step c.stack) (subst (λ l. AreOfRules l.preds) same is.rules) is.good (fails-step v after.loaded.preds names c (failing-is w c.now Now.Failing refl is.is.runs)) fits
+    (fails c.stack (below-lies w c.now c.stack is.is.entries)))
 
 -- what raises
 raising-is : {M : Type 0} (w : World M) (x : NowData) (now : Now) (ball : Tree) → now ≡ Now.Raising ball → NowIs w now x → x ≡ raising ball

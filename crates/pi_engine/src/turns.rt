@@ -125,7 +125,7 @@ fn step<S: StoredDomains>(
             Ok(Outcome::More)
         }
         Now::Failing => {
-            fail(code, run)?;
+            fail(code, mode, run, budget)?;
             Ok(Outcome::More)
         }
         Now::Raising(_) => {

@@ -8,6 +8,7 @@ ghost use Rattle.pi_engine_arenas.specs.Arenas.{Entry, entry_at, FollowsFrame, L
 use crate::blocks::{Blocks, BlocksMark};
 use crate::frames::{Frames, Point};
 use pi_engine_code::Step;
+use pi_label::{Choice, ValueWord};
 use pi_terms::Term;
 use std::alloc::{AllocError, Global};
 
@@ -20,12 +21,22 @@ pub enum Kind {
     Facts(u32, u32),
     /// A choice: so many branches from a place on.
     Branches(u32, u32),
+    /// A choice: the alternatives that are left of the variable that a call of `solve` has picked, by the place of that call.
+    Alternatives(u32, Alternatives),
     /// A level whose goal is run for its first answer, or for all of them.
     Strict(Strict),
     /// A level that takes what its goal raises, by the place of the `catch`.
     Catch(u32),
     /// The newest catch that is open when this one is come back to was left by an answer, and keeps its choices.
     Exit,
+}
+
+/// The alternatives of a variable, by its number, that follow the last one that was tried; all of them where that is None.
+#[derive(Clone, Copy)]
+pub struct Alternatives {
+    pub variable: u64,
+    pub word: ValueWord,
+    pub after: Option<Choice>,
 }
 
 /// What a level does with the answers of its goal.

@@ -1,4 +1,4 @@
--- The names that are called by a goal: those of the tables of predicates, of goals of constraints, `catch` and `call`, and those of predicates that aren't quiet.
+-- The names that are called by a goal: those of the tables of predicates, of goals of constraints, `solve`, `catch` and `call`, and those of predicates that aren't quiet.
 use Rattle.std.proofs.Common.{◌≡◌, ◌↔◌, ◌⊎◌, inl, inr, ℕ, zero, suc, ◌<◌, ◌==◌, ◌&&◌, Bool, true, false, cond, not, List, [], ◌∷◌, ◌++◌, Option, Some, None, map, get_or, refl, sym, ◌∙◌, ap, subst, arith, eqb-true}
 use Rattle.std.specs.Prelude.{option_map, IsTrue, IsSome, Contains, All, filter, AllPairs, slice_get, nat_le, ◌||◌, codes}
 use Rattle.std.specs.Str.{bytes_eq}
@@ -16,14 +16,15 @@ use Rattle.pi_core.specs.declared.core_program.CorePred.{CorePred}
 use Rattle.pi_effects.specs.BuiltIns.{is_predicate}
 use Rattle.pi_effects.specs.Rows.{has_line}
 use Rattle.pi_settling.specs.Goals.{constraint_goals, is_constraint_goal}
-use Rattle.pi_meaning.specs.Shared.Effects.{is_effect_name}
+use Rattle.pi_settling.specs.SolveCalls.{solve_calls, is_solve}
+use Rattle.pi_meaning.specs.Shared.Effects.{is_effect_name, is_built_name}
 use Rattle.pi_meaning.specs.Shared.Names.{is_catch, is_call}
 use Rattle.pi_meaning.specs.CoreMeaning.Sound.{IsAnother}
 use Rattle.pi_meaning.specs.CoreMeaning.Instances.{is_called_by_name}
 use Rattle.pi_meaning.specs.Machine.NamedGoals.{goal_by_name}
 use Rattle.pi_meaning.proofs.Machine.NamedLemmas.{NamedBy, by_catch, by_call, by_name, IsUnnamed, Names, names-it, named-by}
 use Rattle.pi_meaning.proofs.Shared.FoundLemmas.{named, found-by-number}
-use Rattle.pi_meaning.proofs.Shared.TableLemmas.{body-holds, each-line, lines-hold}
+use Rattle.pi_meaning.proofs.Shared.TableLemmas.{Test, body-holds, each-line, lines-hold}
 use Rattle.pi_lib_builtin.specs.Resolved.{Named}
 use Rattle.pi_engine_code.specs.Callables.{names_called, AreNamed}
 
@@ -52,7 +53,7 @@ is-call name k is =
     ((bytes_eq-Decides name (codes "call")).0 parts.1, parts.0)
 
 abbrev IsOneOf : List PredTree → List ℕ → ℕ → Type 0
-IsOneOf preds name k = (is_catch name k ≡ true) ⊎ ((is_call name k ≡ true) ⊎ ((is_effect_name name k ≡ true) ⊎ (is_called_by_name (find_pred false name k preds) ≡ true)))
+IsOneOf preds name k = (is_catch name k ≡ true) ⊎ ((is_call name k ≡ true) ⊎ ((is_built_name name k ≡ true) ⊎ (is_called_by_name (find_pred false name k preds) ≡ true)))
 
 either-there : (a b : Bool) → (a || b) ≡ true → (a ≡ true) ⊎ (b ≡ true)
 either-there true b h = inl refl
@@ -61,7 +62,7 @@ either-there false b h = inr h
 has-goal : (preds : List PredTree) (name : List ℕ) (k : ℕ) (g : GoalTree) → NamedBy preds name k g → IsOneOf preds name k
 has-goal preds name k _ (by_catch catches) = inl catches
 has-goal preds name k _ (by_call other calls) = inr (inl calls)
-has-goal preds name k _ (by_name other another there) = inr (inr (either-there (is_effect_name name k) (is_called_by_name (find_pred false name k preds)) there))
+has-goal preds name k _ (by_name other another there) = inr (inr (either-there (is_built_name name k) (is_called_by_name (find_pred false name k preds)) there))
 
 neither-there : (a b : Bool) → (a || b) ≡ false → (a ≡ true) ⊎ (b ≡ true) → ⊥
 neither-there true b none h = cc none
@@ -71,7 +72,7 @@ neither-there false b none (inr h) = cc (none, h)
 not-one : (preds : List PredTree) (name : List ℕ) (k : ℕ) → IsUnnamed preds name k → IsOneOf preds name k → ⊥
 not-one preds name k none (inl catches) = cc (catches, none.no_catch)
 not-one preds name k none (inr (inl calls)) = cc (calls, none.no_call)
-not-one preds name k none (inr (inr there)) = neither-there (is_effect_name name k) (is_called_by_name (find_pred false name k preds)) none.not_there there
+not-one preds name k none (inr (inr there)) = neither-there (is_built_name name k) (is_called_by_name (find_pred false name k preds)) none.not_there there
 
 named-some : (preds : List PredTree) (name : List ℕ) (k : ℕ) (o : Option GoalTree) → Names preds name k o → IsOneOf preds name k → IsSome o
 named-some preds name k (Some g) names h = refl
@@ -222,26 +223,47 @@ other-listed : (a b : Bool) → b ≡ true → (a || b) ≡ true
 other-listed true b h = refl
 other-listed false b h = h
 
--- with the names of built-in predicates these are the names of all that is built
-pub effects-named : (built names : List (Named ℕ)) → ((name : List ℕ) (k : ℕ) → IsTrue (is_predicate name k) ↔ Contains built (name, k)) → names ≡ built ++ constraint_names → (name : List ℕ) (k : ℕ) → IsTrue (is_effect_name name k) ↔ Contains names (name, k)
-effects-named built names all e name k = (
-  λ is. subst (λ ns. Contains ns (name, k)) (sym e) (elim (either-there (is_predicate name k) (is_constraint_goal name k) is) [
-    | inl known ↦ Contains-append_left built constraint_names (name, k) ((all name k).0 known)
-    | inr goal ↦ Contains-append_right built constraint_names (name, k) (constraint-there name k goal)
+-- a table more
+more-named : (first more : Test) (built rows names : List (Named ℕ)) → ((name : List ℕ) (k : ℕ) → IsTrue (first name k) ↔ Contains built (name, k)) → list_all (λ r. more r.0 r.1) rows ≡ true → ((name : List ℕ) (k : ℕ) → more name k ≡ true → Contains rows (name, k)) →
+    names ≡ built ++ rows → (name : List ℕ) (k : ℕ) → IsTrue (first name k || more name k) ↔ Contains names (name, k)
+more-named first more built rows names all listed standing_there e name k = (
+  λ is. subst (λ ns. Contains ns (name, k)) (sym e) (elim (either-there (first name k) (more name k) is) [
+    | inl known ↦ Contains-append_left built rows (name, k) ((all name k).0 known)
+    | inr another ↦ Contains-append_right built rows (name, k) (standing_there name k another)
   ]),
-  λ there. elim (Contains-append_cases built constraint_names (name, k) (subst (λ ns. Contains ns (name, k)) e there)) [
-    | inl known ↦ either-listed (is_predicate name k) (is_constraint_goal name k) ((all name k).1 known)
-    | inr goal ↦ other-listed (is_predicate name k) (is_constraint_goal name k)
-        (All-contains (λ r. is_constraint_goal r.0 r.1 ≡ true) constraint_names (name, k) (AllPass-from_list_all (λ r. is_constraint_goal r.0 r.1) constraint_names all-constraints) goal)
+  λ there. elim (Contains-append_cases built rows (name, k) (subst (λ ns. Contains ns (name, k)) e there)) [
+    | inl known ↦ either-listed (first name k) (more name k) ((all name k).1 known)
+    | inr another ↦ other-listed (first name k) (more name k) (All-contains (λ r. more r.0 r.1 ≡ true) rows (name, k) (AllPass-from_list_all (λ r. more r.0 r.1) rows listed) another)
   ],
 )
+
+-- with the names of built-in predicates these are the names of all that has an effect
+pub effects-named : (built names : List (Named ℕ)) → ((name : List ℕ) (k : ℕ) → IsTrue (is_predicate name k) ↔ Contains built (name, k)) → names ≡ built ++ constraint_names → (name : List ℕ) (k : ℕ) → IsTrue (is_effect_name name k) ↔ Contains names (name, k)
+effects-named built names all e = more-named is_predicate is_constraint_goal built constraint_names names all all-constraints constraint-there e
+
+-- ---- calls that label
+
+abbrev pub solve_names : List (Named ℕ)
+solve_names = (codes "solve", 1) ∷ (codes "solve", 2) ∷ []
+
+all-solves : list_all (λ r. is_solve r.0 r.1) solve_names ≡ true
+unfolding solve_calls has_line
+all-solves = refl
+
+solve-there : (name : List ℕ) (k : ℕ) → is_solve name k ≡ true → Contains solve_names (name, k)
+unfolding solve_calls each-line body-holds
+solve-there name k is = standing solve_names name k (lines-hold (stands solve_names) solve_calls refl name k is)
+
+-- with those before they are the names of all that is built
+pub all-built-named : (built names : List (Named ℕ)) → ((name : List ℕ) (k : ℕ) → IsTrue (is_effect_name name k) ↔ Contains built (name, k)) → names ≡ built ++ solve_names → (name : List ℕ) (k : ℕ) → IsTrue (is_built_name name k) ↔ Contains names (name, k)
+all-built-named built names all e = more-named is_effect_name is_solve built solve_names names all all-solves solve-there e
 
 -- ---- all names
 
 all-append : (ps qs : List CorePred) → names_called (ps ++ qs) ≡ names_called ps ++ names_called qs
 all-append ps qs = ap (map (λ p. (p.name, p.arity))) (filter-append passes ps qs) ∙ map-append (λ p. (p.name, p.arity)) (filter passes ps) (filter passes qs)
 
-some-named : (ps qs : List CorePred) (built : List (Named ℕ)) → ((name : List ℕ) (k : ℕ) → IsTrue (is_effect_name name k) ↔ Contains built (name, k)) → AllPairs IsAnother (map pred_tree (ps ++ qs)) → (name : List ℕ) (k : ℕ) →
+some-named : (ps qs : List CorePred) (built : List (Named ℕ)) → ((name : List ℕ) (k : ℕ) → IsTrue (is_built_name name k) ↔ Contains built (name, k)) → AllPairs IsAnother (map pred_tree (ps ++ qs)) → (name : List ℕ) (k : ℕ) →
     Contains (all_named built ps qs) (name, k) → IsSome (goal_by_name (map pred_tree (ps ++ qs)) name k)
 some-named ps qs built all apart name k there =
     let called : Contains (names_called ps ++ names_called qs) (name, k) → IsSome (goal_by_name (map pred_tree (ps ++ qs)) name k) =
@@ -265,7 +287,7 @@ some-named ps qs built all apart name k there =
           ]
     ]
 
-each-named : (ps qs : List CorePred) (built : List (Named ℕ)) → ((name : List ℕ) (k : ℕ) → IsTrue (is_effect_name name k) ↔ Contains built (name, k)) → (name : List ℕ) (k : ℕ) → IsOneOf (map pred_tree (ps ++ qs)) name k →
+each-named : (ps qs : List CorePred) (built : List (Named ℕ)) → ((name : List ℕ) (k : ℕ) → IsTrue (is_built_name name k) ↔ Contains built (name, k)) → (name : List ℕ) (k : ℕ) → IsOneOf (map pred_tree (ps ++ qs)) name k →
     Contains (all_named built ps qs) (name, k)
 each-named ps qs built all name k (inl catches) =
     let same : (name ≡ codes "catch") × (k ≡ 3) = is-catch name k catches in
@@ -289,7 +311,7 @@ each-named ps qs built all name k (inr (inr (inr called))) =
           (Contains-append_right ((built ++ (codes "catch", 3) ∷ []) ++ call_names 8) (names_called ps) (name, k) program)
     ]
 
-pub are-named : (ps qs : List CorePred) (built names : List (Named ℕ)) → ((name : List ℕ) (k : ℕ) → IsTrue (is_effect_name name k) ↔ Contains built (name, k)) → names ≡ all_named built ps qs → AreNamed (ps ++ qs) names
+pub are-named : (ps qs : List CorePred) (built names : List (Named ℕ)) → ((name : List ℕ) (k : ℕ) → IsTrue (is_built_name name k) ↔ Contains built (name, k)) → names ≡ all_named built ps qs → AreNamed (ps ++ qs) names
 are-named ps qs built names all e =
     record {
       right = λ apart name k there. some-named ps qs built all apart name k (subst (λ ns. Contains ns (name, k)) e there);

@@ -19,6 +19,7 @@ use Rattle.pi_effects.specs.Comparing.{comparing_tests}
 use Rattle.pi_effects.specs.Kinds.{kind_tests}
 use Rattle.pi_effects.specs.Texts.{writing_predicates}
 use Rattle.pi_effects.specs.BuiltIns.{tests, test_in, writing_in, other_predicates, built_in_predicate}
+use Rattle.pi_settling.specs.SolveCalls.{is_solve}
 use Rattle.pi_lib_builtin.specs.Names.{may_bind}
 use Rattle.pi_lib_builtin.specs.Resolved.{IsFunctionNamed, IsPredicateNamed}
 use Rattle.pi_lib_builtin.specs.declared.functions.Function.{Function}
@@ -168,6 +169,19 @@ constraint-laid preds v d e name shown us g place first arity k pushed at many s
   name-there d.names.items e.names.items name place pushed at,
   many,
   subst (λ n. IsConstraintNamed n (length us) g) same (subst (λ n. IsConstraintNamed shown n g) long named),
+  operands-wider (tables_for preds v.now.terms d) (tables_for preds v.now.terms (with_names d e)) first us (wider-added preds v v d (with_names d e) (name-pushed v d e name pushed).adds) are,
+)
+
+pub solve-laid : {M : Type 0} (preds : List CorePred) (v : StoreView M) (d e : Code) (name shown : List ℕ) (us : List Tree) (place first arity : ℕ) → e.names.items ≡ d.names.items ++ name ∷ [] → place ≡ length d.names.items → arity ≡ length us →
+    shown ≡ name → is_solve shown arity ≡ true → OperandsAt (tables_for preds v.now.terms d) first us →
+    IsNodeOf preds (tables_for preds v.now.terms (with_names d e)) (GoalKind.Call name us) (Node.Solve place first arity)
+solve-laid preds v d e name shown us place first arity pushed at many same labels are = (
+  name,
+  us,
+  refl,
+  name-there d.names.items e.names.items name place pushed at,
+  many,
+  subst (λ n. is_solve n (length us) ≡ true) same (subst (λ n. is_solve shown n ≡ true) many labels),
   operands-wider (tables_for preds v.now.terms d) (tables_for preds v.now.terms (with_names d e)) first us (wider-added preds v v d (with_names d e) (name-pushed v d e name pushed).adds) are,
 )
 

@@ -36,6 +36,7 @@ node-wider preds t u k (Node.BuiltIn p m first arity) h is = (is.0, is.1, is.2, 
 node-wider preds t u k (Node.BuiltInValue f m first arity slot) h is = (is.0, is.1, is.2, h.names m is.0 is.3, is.4, is.5, operands-wider t u first is.1 h is.6)
 node-wider preds t u k (Node.Constrain g m first arity) h is = (is.0, is.1, is.2, h.names m is.0 is.3, is.4, is.5, operands-wider t u first is.1 h is.6)
 node-wider preds t u k (Node.DomainValue f m first arity slot) h is = (is.0, is.1, is.2, h.names m is.0 is.3, is.4, is.5, operands-wider t u first is.1 h is.6)
+node-wider preds t u k (Node.Solve m first arity) h is = (is.0, is.1, is.2, h.names m is.0 is.3, is.4, is.5, operands-wider t u first is.1 h is.6)
 node-wider preds t u k (Node.CallTerm first arity) h is = (is.0, is.1, is.2, is.3, operands-wider t u first is.0 h is.4)
 
 pub step-wider : (preds : List CorePred) (t u : Tables) (first slots : ℕ) (h : Marked) (s : Step) → Wider t u → IsStepFor preds t first slots h s → IsStepFor preds u first slots h s

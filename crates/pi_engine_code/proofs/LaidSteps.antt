@@ -106,6 +106,7 @@ resolved-node preds t k (Node.BuiltIn p m first arity) is = tt
 resolved-node preds t k (Node.BuiltInValue f m first arity slot) is = tt
 resolved-node preds t k (Node.Constrain g m first arity) is = tt
 resolved-node preds t k (Node.DomainValue f m first arity slot) is = tt
+resolved-node preds t k (Node.Solve m first arity) is = tt
 resolved-node preds t k (Node.CallTerm first arity) is = tt
 
 pub resolved-more : (preds : List CorePred) (ss rs : List Step) (s : Step) → rs ≡ ss ++ s ∷ [] → IsResolved preds s.node → AreResolved preds ss → AreResolved preds rs

@@ -88,6 +88,7 @@ node_kind t (Node.BuiltIn p name first arity) = GoalKind.Call (slice_index_or t.
 node_kind t (Node.BuiltInValue f name first arity slot) = GoalKind.Apply (slice_index_or t.names name []) (operand_trees t first arity) slot
 node_kind t (Node.Constrain g name first arity) = GoalKind.Call (slice_index_or t.names name []) (operand_trees t first arity)
 node_kind t (Node.DomainValue f name first arity slot) = GoalKind.Apply (slice_index_or t.names name []) (operand_trees t first arity) slot
+node_kind t (Node.Solve name first arity) = GoalKind.Call (slice_index_or t.names name []) (operand_trees t first arity)
 node_kind t (Node.CallTerm first count) = GoalKind.Call (codes "call") (operand_trees t first count)
 
 -- a step as a cell of a goal

@@ -9,7 +9,8 @@ use Rattle.pi_core.specs.GoalCells.{kind_of}
 use Rattle.pi_core.specs.declared.goal_node.GoalKind.{GoalKind}
 use Rattle.pi_core.specs.declared.goal_node.GoalNode.{GoalNode}
 use Rattle.pi_core.specs.declared.core_program.CorePred.{CorePred}
-use Rattle.pi_meaning.specs.Shared.Effects.{is_effect_name, is_value_name}
+use Rattle.pi_settling.specs.SolveCalls.{is_solve}
+use Rattle.pi_meaning.specs.Shared.Effects.{is_built_name, is_value_name}
 use Rattle.pi_meaning.specs.Shared.Names.{is_call}
 use Rattle.pi_lib_builtin.specs.declared.predicates.Predicate.{Predicate}
 use Rattle.pi_lib_builtin.specs.Names.{may_bind}
@@ -128,9 +129,9 @@ pub record IsNamed (preds : List CorePred) (function : Bool) (n : ℕ) (name : L
 abbrev pub IsUnnamed : List CorePred → Bool → List ℕ → ℕ → Type 0
 IsUnnamed preds function name k = (n : ℕ) → IsNamed preds function n name k → ⊥
 
--- no predicate or function of this name with so many arguments is built, also not with constraints, and it calls no term
+-- no predicate or function of this name with so many arguments is built, also not with constraints or to label, and it calls no term
 abbrev pub IsNotBuiltIn : Bool → List ℕ → ℕ → Type 0
-IsNotBuiltIn false name k = (is_effect_name name k ≡ false) × (is_call name k ≡ false)
+IsNotBuiltIn false name k = (is_built_name name k ≡ false) × (is_call name k ≡ false)
 IsNotBuiltIn true name k = is_value_name name k ≡ false
 
 -- what is called isn't there
@@ -177,6 +178,8 @@ IsNodeOf preds t k (Node.Constrain g n first arity) =
     (name : List ℕ) × (us : List Tree) × (k ≡ GoalKind.Call name us) × (slice_get t.names n ≡ Some name) × (arity ≡ length us) × IsConstraintNamed name (length us) g × OperandsAt t first us
 IsNodeOf preds t k (Node.DomainValue f n first arity slot) =
     (name : List ℕ) × (us : List Tree) × (k ≡ GoalKind.Apply name us slot) × (slice_get t.names n ≡ Some name) × (arity ≡ length us) × IsDomainFunctionNamed name (length us) f × OperandsAt t first us
+IsNodeOf preds t k (Node.Solve n first arity) =
+    (name : List ℕ) × (us : List Tree) × (k ≡ GoalKind.Call name us) × (slice_get t.names n ≡ Some name) × (arity ≡ length us) × (is_solve name (length us) ≡ true) × OperandsAt t first us
 IsNodeOf preds t k (Node.CallTerm first arity) =
     (us : List Tree) × (k ≡ GoalKind.Call (codes "call") us) × (arity ≡ length us) × (is_call (codes "call") (length us) ≡ true) × OperandsAt t first us
 

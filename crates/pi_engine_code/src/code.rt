@@ -72,6 +72,9 @@ pub enum Node {
     Constrain(ConstraintGoal, u32, u32, u32),
     /// The same of a function of domains, and the slot that takes its value.
     DomainValue(DomainFunction, u32, u32, u32, u32),
+    /// A call of `solve`: the place of its name among the names, where its arguments begin among the operands, and how many they
+    /// are.
+    Solve(u32, u32, u32),
     /// `call` of a term with more arguments: where these operands begin, and how many they are.
     CallTerm(u32, u32),
 }

@@ -14,4 +14,4 @@ pub use heads::unify_fact;
 pub use keyed::Facts;
 pub use modes::fits_call;
 pub use trying::{next_unifying, unifies};
-pub use unknown::unknown_name;
+pub use unknown::{unknown_ball, unknown_name};

@@ -21,19 +21,19 @@ pub fn unknown_name(
     ensures { IfOk result (λ made. made ≡ unknown_by (map pred_tree (preds.now ++ helpers.now)) name.now arity) }
 {
     if !is_planner(name, arity) {
-        return unknown(alloc, name, arity);
+        return unknown_ball(alloc, name, arity);
     }
     if !defines(preds, helpers, "final", 1) {
-        return unknown(alloc, "final", 1);
+        return unknown_ball(alloc, "final", 1);
     }
     if !defines(preds, helpers, "action", 4) {
-        return unknown(alloc, "action", 4);
+        return unknown_ball(alloc, "action", 4);
     }
-    unknown(alloc, name, arity)
+    unknown_ball(alloc, name, arity)
 }
 
-/// `unknown_name(Name,N)`.
-fn unknown(alloc: Global, name: &str, arity: u64) -> Result<Term, AllocError>
+/// What is raised of a name that isn't known with so many arguments: `unknown_name(Name,N)`. Own.
+pub fn unknown_ball(alloc: Global, name: &str, arity: u64) -> Result<Term, AllocError>
     ensures { IfOk result (λ made. made ≡ unknown_ball name.now arity) }
 {
     let name = Term::atom(alloc, name)?;

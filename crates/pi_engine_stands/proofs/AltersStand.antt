@@ -12,7 +12,7 @@ use Rattle.pi_engine_arenas.specs.declared.arenas.Entry.{Entry}
 use Rattle.pi_meaning.specs.Machine.Configuration.{Entry as EntryData, choice, strict, catch_level, left, Strict, Back as BackData}
 use Rattle.pi_meaning.specs.Machine.Shape.{open_level}
 use Rattle.pi_engine_stands.specs.Here.{Here}
-use Rattle.pi_engine_stands.specs.Stands.{World, Loaded, entries_of, ends_of, entry_ends, back_here, agrees_from, Agrees, KindIs, rules_kind, facts_kind, branches_kind, once_kind, not_kind, if_kind, guard_kind, apply_kind, collect_kind, count_kind, catch_kind, exit_kind, EntryIs, IsAbove, StackIs, entry_above, StackStands}
+use Rattle.pi_engine_stands.specs.Stands.{World, Loaded, entries_of, ends_of, entry_ends, back_here, agrees_from, Agrees, KindIs, rules_kind, facts_kind, branches_kind, alternatives_kind, once_kind, not_kind, if_kind, guard_kind, apply_kind, collect_kind, count_kind, catch_kind, exit_kind, EntryIs, IsAbove, StackIs, entry_above, StackStands}
 use Rattle.pi_constraints.specs.Store.{Extend}
 use Rattle.pi_meaning.proofs.Machine.StackLemmas.{IsClosed}
 use Rattle.pi_terms.proofs.OptionLemmas.{one-some}
@@ -138,6 +138,7 @@ kind-shifts : (l : Loaded) (c d : List Tree) (h : Here) (t : State) (base frame 
 kind-shifts l c d h t base frame slots from to over kind y lies (rules_kind is fits one) = (rules_kind is fits refl, one)
 kind-shifts l c d h t base frame slots from to over kind y lies (facts_kind is fits one) = (facts_kind is fits refl, one)
 kind-shifts l c d h t base frame slots from to over kind y lies (branches_kind is at here last count one) = (branches_kind is at here last count refl, one)
+kind-shifts l c d h t base frame slots from to over kind y lies (alternatives_kind own are one) = (alternatives_kind own are refl, one)
 kind-shifts l c d h t base frame slots from to over kind y lies (once_kind own one) = absurd (lies _ _ refl)
 kind-shifts l c d h t base frame slots from to over kind y lies (not_kind own one) = absurd (lies _ _ refl)
 kind-shifts l c d h t base frame slots from to over kind y lies (if_kind own one) = absurd (lies _ _ refl)

@@ -34,6 +34,7 @@ ends-begin l (Kind.Catch place) base = shape-base (slice_get (steps_of l) place)
 ends-begin l (Kind.Rules p r) base = refl
 ends-begin l (Kind.Facts p r) base = refl
 ends-begin l (Kind.Branches place n) base = refl
+ends-begin l (Kind.Alternatives place it) base = refl
 ends-begin l Kind.Exit base = refl
 
 -- the blocks in front of which a level was entered lie in front of those in it

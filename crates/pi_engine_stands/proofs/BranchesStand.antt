@@ -20,7 +20,7 @@ use Rattle.pi_engine_arenas.specs.declared.run.Now.{Now}
 use Rattle.pi_engine_code.specs.Code.{Tables, tables_of, step_cell, node_kind, StandsAt, child_place}
 use Rattle.pi_engine_arenas.specs.Arenas.{ArenasView, entry_at, newest, slots_kept_by, with_kind, new_entry, pushed, DropsNewest}
 use Rattle.pi_engine_arenas.specs.declared.arenas.Entry.{Entry}
-use Rattle.pi_meaning.specs.Machine.Configuration.{Frame, behind, Entry as EntryData, choice, branches_left, config, Back as BackData}
+use Rattle.pi_meaning.specs.Machine.Configuration.{Frame, behind, Choice, Entry as EntryData, choice, branches_left, config, Back as BackData}
 use Rattle.pi_meaning.specs.Machine.Step.{branch, goal_step, run_goal, back_to, with_rest}
 use Rattle.pi_meaning.specs.Machine.Shape.{open_level}
 use Rattle.pi_engine_stands.specs.Here.{Block, IsStepOf, EachLast, SayLast, IsHere, last_here, AreBranches, Holds, LeftBehind}
@@ -107,7 +107,7 @@ going-passes w v a m p gs e k es passes stack within is =
     }
 
 -- one goal of a block
-one-runs : {M : Type 0} (w : World M) (place base frame : ℕ) (b : Block) (g : GoalTree) (last : Bool) (e : Places) (k : List Frame) → (own : StandsBehind w.loaded (now_here w) b frame e k) → b.base ≡ base →
+pub one-runs : {M : Type 0} (w : World M) (place base frame : ℕ) (b : Block) (g : GoalTree) (last : Bool) (e : Places) (k : List Frame) → (own : StandsBehind w.loaded (now_here w) b frame e k) → b.base ≡ base →
     IsHere (tables_in w.loaded) (steps_of w.loaded) b place g last → LeftBehind None last own.leaves k → Agrees w w.arenas.level (now_here w) →
     GoingIs w (record { place = place; count = 1; base = base; frame = frame }) (goal g no_goals) e k
 one-runs w place base frame b g last e k own at here and_leaves agrees =
@@ -143,12 +143,12 @@ last-branch w a back place n gs b es named few it drops =
     let out : Popped (moved w w.store a) back w.arenas.collected it.from (choice (branches_left gs) b) es = popped w a back (choice (branches_left gs) b) es it drops in
     last-in (moved w w.store a) back w.arenas.collected it.from place n back.blocks.slots back.kind gs b es out named few out.kind
 
--- the stack with an entry that waits for other branches
-renamed-stands : {M : Type 0} (w : World M) (back : Back) (y : EntryData) (gs : GoalTrees) (b : BackData) (es : List EntryData) (kind : Kind) → (it : IsBack w back y es) → it.from ≡ length w.arenas.collected →
-    KindIs w.loaded w.arenas.collected (now_here w) w.store.now.state back.base back.frame back.blocks.slots (length w.arenas.collected) (length w.arenas.collected) kind (choice (branches_left gs) b) →
-    StackStands (moved w w.store (renamed w.arenas it.entry kind)) (choice (branches_left gs) b ∷ es)
+-- the stack with an entry that waits for what is left of a choice
+pub renamed-stands : {M : Type 0} (w : World M) (back : Back) (y : EntryData) (left : Choice) (b : BackData) (es : List EntryData) (kind : Kind) → (it : IsBack w back y es) → it.from ≡ length w.arenas.collected →
+    KindIs w.loaded w.arenas.collected (now_here w) w.store.now.state back.base back.frame back.blocks.slots (length w.arenas.collected) (length w.arenas.collected) kind (choice left b) →
+    StackStands (moved w w.store (renamed w.arenas it.entry kind)) (choice left b ∷ es)
 unfolding open_level
-renamed-stands w back y gs b es kind it none kind_is =
+renamed-stands w back y left b es kind it none kind_is =
     let x : Entry _ = it.entry in
     let top : ℕ = length w.arenas.collected in
     let a : ArenasView _ = renamed w.arenas x kind in
@@ -157,18 +157,18 @@ renamed-stands w back y gs b es kind it none kind_is =
     ap (entry_at a.entries) more ∙ ap (λ m. slice_get (slice_set (entries_of w) m (with_kind x kind)) it.below) (omega (arith, it.count)) ∙ get-set (entries_of w) it.below x (with_kind x kind) it.at in
     let first : newest (entries_of w) ≡ Some x = ap (entry_at (entries_of w)) it.count ∙ it.at in
     let entry_is : EntryIs w es (entry_at (entries_of w) it.below) top top x y = subst (λ n. EntryIs w es (entry_at (entries_of w) it.below) n top x y) none it.is in
-    let waits : KindIs w.loaded w.arenas.collected (back_here w x) (w.store.at_mark x.mark).state x.back.base x.back.frame x.back.blocks.slots top top kind (choice (branches_left gs) b) =
-    subst (λ r. KindIs w.loaded w.arenas.collected (back_here w x) (w.store.at_mark x.mark).state r.base r.frame r.blocks.slots top top kind (choice (branches_left gs) b)) (sym it.back_is)
-    (subst (λ h. KindIs w.loaded w.arenas.collected h (w.store.at_mark x.mark).state back.base back.frame back.blocks.slots top top kind (choice (branches_left gs) b)) it.here
-    (subst (λ s. KindIs w.loaded w.arenas.collected (now_here w) s back.base back.frame back.blocks.slots top top kind (choice (branches_left gs) b)) it.now kind_is)) in
+    let waits : KindIs w.loaded w.arenas.collected (back_here w x) (w.store.at_mark x.mark).state x.back.base x.back.frame x.back.blocks.slots top top kind (choice left b) =
+    subst (λ r. KindIs w.loaded w.arenas.collected (back_here w x) (w.store.at_mark x.mark).state r.base r.frame r.blocks.slots top top kind (choice left b)) (sym it.back_is)
+    (subst (λ h. KindIs w.loaded w.arenas.collected h (w.store.at_mark x.mark).state back.base back.frame back.blocks.slots top top kind (choice left b)) it.here
+    (subst (λ s. KindIs w.loaded w.arenas.collected (now_here w) s back.base back.frame back.blocks.slots top top kind (choice left b)) it.now kind_is)) in
     record {
       code = it.code;
       state = back-rests w back y es it;
       tables = it.tables;
       level = it.level ∙ ap (λ r. r.level) (sym it.back_is) ∙ it.is.level;
       kept = it.kept ∙ ap slots_kept_by first ∙ sym (ap slots_kept_by last);
-      stack = subst (λ m. StackIs (moved w w.store a) m top (choice (branches_left gs) b ∷ es)) (sym more)
-          (stack-renamed w it.below es x y (choice (branches_left gs) b) kind it.count it.at entry_is (subst (λ n. StackIs w it.below n es) none it.stack) waits);
+      stack = subst (λ m. StackIs (moved w w.store a) m top (choice left b ∷ es)) (sym more)
+          (stack-renamed w it.below es x y (choice left b) kind it.count it.at entry_is (subst (λ n. StackIs w it.below n es) none it.stack) waits);
     }
 
 some-goals : {M : Type 0} (w : World M) (back : Back) (y : EntryData) (place : ℕ) (block : Block) (g : GoalTree) (gs : GoalTrees) (last : Bool) (e : Places) (k : List Frame) (es : List EntryData) (n next : ℕ) → (it : IsBack w back y es) → it.from ≡ length w.arenas.collected →
@@ -187,7 +187,7 @@ some-goals w back y place block g (goal h hs) last e k es n next it none many co
     let stack : StackIs w it.below top es = subst (λ m. StackIs w it.below m es) none it.stack in
     let level : w.arenas.level ≤ it.below = omega (arith, it.level, ap (λ r. r.level) it.back_is, it.is.level, open_level-within zero es, stack-length w it.below top es stack) in
     record {
-      entries = renamed-stands w back y (goal h hs) (record { slots = e; state = w.store.now.state; frames = k }) es kind it none
+      entries = renamed-stands w back y (branches_left (goal h hs)) (record { slots = e; state = w.store.now.state; frames = k }) es kind it none
           (branches_kind own begins (subst (λ m. AreBranches (tables_in w.loaded) (steps_of w.loaded) block m (goal h hs) last) (sym following) two.1) and_leaves (omega (arith, count)) refl);
       runs = going_now (going-passes w w.store a it.below (record { place = place; count = 1; base = back.base; frame = back.frame }) (goal g no_goals) e k es (renamed-passes w x kind it.below it.count) stack level
           (one-runs w place back.base back.frame block g last e k own begins two.0 and_leaves (back-agrees w back y es it)));

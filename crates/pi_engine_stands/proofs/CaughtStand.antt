@@ -28,7 +28,7 @@ use Rattle.pi_engine_arenas.specs.Arenas.{ArenasView, DropsNewest, between}
 use Rattle.pi_meaning.specs.Machine.Configuration.{Frame, Entry as EntryData, config, raising, settling}
 use Rattle.pi_meaning.specs.Machine.Step.{raise_step, handler_step}
 use Rattle.pi_engine_stands.specs.Here.{Block, SayLast, Holds}
-use Rattle.pi_engine_stands.specs.Stands.{World, tables_in, steps_of, now_here, block_at, Agrees, GoalStands, KindIs, rules_kind, facts_kind, branches_kind, once_kind, not_kind, if_kind, guard_kind, apply_kind, collect_kind, count_kind, catch_kind, exit_kind, StackStands, Stands, NowIs, raising_now, GoingIs}
+use Rattle.pi_engine_stands.specs.Stands.{World, tables_in, steps_of, now_here, block_at, Agrees, GoalStands, KindIs, rules_kind, facts_kind, branches_kind, alternatives_kind, once_kind, not_kind, if_kind, guard_kind, apply_kind, collect_kind, count_kind, catch_kind, exit_kind, StackStands, Stands, NowIs, raising_now, GoingIs}
 use Rattle.pi_engine_stands.specs.Evaluates.{Writes, Evaluates}
 use Rattle.pi_engine_stands.specs.Fails.{ComesTo, IsBack}
 use Rattle.pi_engine_stands.specs.Raises.{TellsCaught}
@@ -100,6 +100,7 @@ catch-node t (Node.BuiltIn built name first arity) g handler wanted h = absurd c
 catch-node t (Node.BuiltInValue built name first arity slot) g handler wanted h = absurd cc
 catch-node t (Node.Constrain c name first arity) g handler wanted h = absurd cc
 catch-node t (Node.DomainValue f name first arity slot) g handler wanted h = absurd cc
+catch-node t (Node.Solve name first arity) g handler wanted h = absurd cc
 catch-node t (Node.Call p first) g handler wanted h = absurd cc
 catch-node t (Node.Apply p first into) g handler wanted h = absurd cc
 catch-node t (Node.Value value) g handler wanted h = absurd cc
@@ -157,6 +158,7 @@ unfolding raise_step
 caught-in w u c back collected from place at_child slots code s kind ball next_now now y es it named is_code step finds tells follows_it (rules_kind is fits one) = absurd cc
 caught-in w u c back collected from place at_child slots code s kind ball next_now now y es it named is_code step finds tells follows_it (facts_kind is fits one) = absurd cc
 caught-in w u c back collected from place at_child slots code s kind ball next_now now y es it named is_code step finds tells follows_it (branches_kind is at here last count one) = absurd cc
+caught-in w u c back collected from place at_child slots code s kind ball next_now now y es it named is_code step finds tells follows_it (alternatives_kind own are one) = absurd cc
 caught-in w u c back collected from place at_child slots code s kind ball next_now now y es it named is_code step finds tells follows_it (once_kind own one) = absurd cc
 caught-in w u c back collected from place at_child slots code s kind ball next_now now y es it named is_code step finds tells follows_it (not_kind own one) = absurd cc
 caught-in w u c back collected from place at_child slots code s kind ball next_now now y es it named is_code step finds tells follows_it (if_kind own one) = absurd cc

@@ -65,6 +65,7 @@ collect-node t (Node.BuiltIn built name first arity) g v i h = absurd cc
 collect-node t (Node.BuiltInValue built name first arity slot) g v i h = absurd cc
 collect-node t (Node.Constrain c name first arity) g v i h = absurd cc
 collect-node t (Node.DomainValue f name first arity slot) g v i h = absurd cc
+collect-node t (Node.Solve name first arity) g v i h = absurd cc
 collect-node t (Node.Call p first) g v i h = absurd cc
 collect-node t (Node.Apply p first q) g v i h = absurd cc
 collect-node t (Node.Value u) g v i h = absurd cc

@@ -6,7 +6,7 @@ use Rattle.pi_constraints.specs.State.{State}
 use Rattle.pi_engine_arenas.specs.declared.arenas.Kind.{Kind}
 use Rattle.pi_meaning.specs.Machine.Configuration.{Entry as EntryData}
 use Rattle.pi_engine_stands.specs.Here.{Here}
-use Rattle.pi_engine_stands.specs.Stands.{Loaded, World, entries_of, back_here, KindIs, rules_kind, facts_kind, branches_kind, once_kind, not_kind, if_kind, guard_kind, apply_kind, collect_kind, count_kind, catch_kind, exit_kind, StackIs, no_entries, entry_above}
+use Rattle.pi_engine_stands.specs.Stands.{Loaded, World, entries_of, back_here, KindIs, rules_kind, facts_kind, branches_kind, alternatives_kind, once_kind, not_kind, if_kind, guard_kind, apply_kind, collect_kind, count_kind, catch_kind, exit_kind, StackIs, no_entries, entry_above}
 use Rattle.pi_engine_stands.specs.ComesBack.{IsMadeIn, KeepsOneMark, EntriesKeepOneMark, ReturnsToTheMaking}
 use Rattle.pi_engine_stands.proofs.StandsLemmas.{moved, stack-length}
 use Rattle.pi_engine_stands.proofs.BackStand.{CameBack, came-back, back-kind}
@@ -16,6 +16,7 @@ made-in : (l : Loaded) (collected : List Tree) (h : Here) (s : State) (base fram
 made-in l collected h s base frame slots from to k y (rules_kind stands few none) = refl
 made-in l collected h s base frame slots from to k y (facts_kind stands few none) = refl
 made-in l collected h s base frame slots from to k y (branches_kind behind base_is here leaves count none) = refl
+made-in l collected h s base frame slots from to k y (alternatives_kind own are one) = refl
 made-in l collected h s base frame slots from to k y (once_kind stands none) = refl
 made-in l collected h s base frame slots from to k y (not_kind stands none) = refl
 made-in l collected h s base frame slots from to k y (if_kind stands none) = refl

@@ -50,6 +50,7 @@ count-node t (Node.BuiltIn built name first many) g into h = absurd cc
 count-node t (Node.BuiltInValue built name first many q) g into h = absurd cc
 count-node t (Node.Constrain c name first many) g into h = absurd cc
 count-node t (Node.DomainValue f name first many q) g into h = absurd cc
+count-node t (Node.Solve name first many) g into h = absurd cc
 count-node t (Node.Call p first) g into h = absurd cc
 count-node t (Node.Apply p first q) g into h = absurd cc
 count-node t (Node.Value value) g into h = absurd cc

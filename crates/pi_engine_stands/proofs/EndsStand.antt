@@ -17,7 +17,7 @@ use Rattle.pi_engine_arenas.specs.Arenas.{ArenasView, DropsNewest}
 use Rattle.pi_meaning.specs.Machine.Configuration.{Frame, Entry as EntryData, Strict, strict, Back as BackData}
 use Rattle.pi_meaning.specs.Machine.Step.{end_step, fail_step}
 use Rattle.pi_engine_stands.specs.Here.{Block, Here, SayLast, IsHere, none_here, last_here}
-use Rattle.pi_engine_stands.specs.Stands.{World, Loaded, tables_in, steps_of, now_here, block_at, Agrees, GoalStands, KindIs, rules_kind, facts_kind, branches_kind, once_kind, not_kind, if_kind, guard_kind, apply_kind, collect_kind, count_kind, catch_kind, exit_kind, Stands, going_now, failing_now, GoingIs}
+use Rattle.pi_engine_stands.specs.Stands.{World, Loaded, tables_in, steps_of, now_here, block_at, Agrees, GoalStands, KindIs, rules_kind, facts_kind, branches_kind, alternatives_kind, once_kind, not_kind, if_kind, guard_kind, apply_kind, collect_kind, count_kind, catch_kind, exit_kind, Stands, going_now, failing_now, GoingIs}
 use Rattle.pi_engine_stands.specs.Makes.{IsPassed}
 use Rattle.pi_engine_stands.specs.Fails.{ComesTo, IsBack}
 use Rattle.pi_engine_code.proofs.CodeLemmas.{stands-child, nodes-fit, child_place-first, child_place-more}
@@ -141,6 +141,7 @@ unfolding fail_step end_step
 passes w back collected from h t base frame slots kind y es it passed (rules_kind is fits one) = absurd passed
 passes w back collected from h t base frame slots kind y es it passed (facts_kind is fits one) = absurd passed
 passes w back collected from h t base frame slots kind y es it passed (branches_kind is at here last count one) = absurd passed
+passes w back collected from h t base frame slots kind y es it passed (alternatives_kind own are one) = absurd passed
 passes w back collected from h t base frame slots kind y es it passed (once_kind own one) = record { entries = stack-lies w es (popped-stands w back collected from y es it one); runs = failing_now }
 passes w back collected from h t base frame slots kind y es it passed (not_kind own one) = absurd passed
 passes w back collected from h t base frame slots kind y es it passed (if_kind own one) = absurd passed

@@ -1,5 +1,5 @@
 -- Goals that are run, as parts of a run: by the Ticks that they count.
-use Rattle.std.proofs.Common.{◌≡◌, ◌≢◌, ℕ, ◌+◌, ◌≤◌, ◌<◌, ◌^◌, Bool, true, false, List, [], ◌∷◌, Option, Some, None, length, refl, sym, ◌∙◌, ap, subst, arith}
+use Rattle.std.proofs.Common.{◌≡◌, ◌≢◌, ℕ, ◌+◌, ◌≤◌, ◌<◌, ◌^◌, inl, inr, Bool, true, false, List, [], ◌∷◌, Option, Some, None, length, refl, sym, ◌∙◌, ap, subst, arith}
 use Rattle.std.specs.Prelude.{slice_get, pos, negsuc, ℤ}
 use Rattle.pi_terms.specs.Tree.{Tree}
 use Rattle.pi_terms.specs.Places.{Places}
@@ -33,6 +33,7 @@ use Rattle.pi_engine_stands.specs.Views.{Fits}
 use Rattle.pi_meaning.specs.Shared.Within.{is_body}
 use Rattle.pi_meaning.specs.Machine.Budget.{AreStepsUsed, IsWorkUsed}
 use Rattle.pi_engine_stands.specs.Goes.{counted, spent, TicksUnless, HasNone, IsWorkIn, IsAt, Goes, IsSpent, TicksOn, AtGoal, GoalGoes, IsSilent, counting}
+use Rattle.pi_engine_stands.specs.Fails.{TicksTo}
 use Rattle.pi_engine_stands.proofs.FramesStand.{going-of, going-size}
 use Rattle.pi_engine_stands.proofs.EqualStands.{kind-of-node, going-behind, node-readable}
 use Rattle.pi_engine_code.specs.declared.code.Predicate.{Predicate}
@@ -199,6 +200,20 @@ ticks-out v names Mode.Top after now c d rules good is fits ended =
     record { comes = c; leads = leads-none v after.loaded.preds names c; good = good; is = subst (λ n. IsAt v names after n c) (sym ended) (step-at_tick v after.loaded.preds names c d rules good is) }
 ticks-out v names (Mode.Inner rest) after now c d rules good is fits ended =
     record { comes = c; leads = leads-none v after.loaded.preds names c; good = good; is = subst (λ n. IsAt v names after n c) (sym ended) (Tick, body-ticks v rest fits, step-at_tick v after.loaded.preds names c d rules good is) }
+
+-- a step that counts its Tick, or before which the run ends
+pub ticks-to : {M : Type 0} (v : View) (names : List NameSlot) (mode : Mode) (old new : Budget) (after : World M) (now : Now) (c d : Config) → AreOfRules after.loaded.preds → IsGood c → step v after.loaded.preds names c ≡ with_tick d → Fits mode v →
+    TicksTo (counting mode old new) after now d → TicksOn v names mode old new after now c
+ticks-to v names mode old new after now c d rules good is fits (inl it) =
+    record {
+      goes = subst (λ k. Goes v names (some_ticks k) after now c) (sym it.0) (ticks-on v names after now c d rules good is it.1);
+      spent = unspent after mode new now d it.1;
+    }
+ticks-to v names mode old new after now c d rules good is fits (inr it) =
+    record {
+      goes = subst (λ k. Goes v names (some_ticks k) after now c) (sym (none-counted mode old new it.0)) (ticks-out v names mode after now c d rules good is fits it.1);
+      spent = spent-is mode old new now it.0 it.1 it.2;
+    }
 
 -- a `Tick` is counted and passed
 tick-of : (g : GoalTree) → GoalKind.Tick ≡ kind_of g → g ≡ tick

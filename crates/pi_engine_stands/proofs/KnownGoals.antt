@@ -7,7 +7,7 @@ use Rattle.pi_terms.specs.Order.{name_order}
 use Rattle.pi_core.specs.GoalTree.{GoalTree, truth, fail, tick, call, apply, seq, alternatives, if_else, not, once, collect, count, catch, subgoals}
 use Rattle.pi_core.specs.GoalCells.{kind_of}
 use Rattle.pi_core.specs.CoreTree.{pred_tree, find_pred, is_pred}
-use Rattle.pi_meaning.specs.Shared.Effects.{is_effect_name, is_value_name}
+use Rattle.pi_meaning.specs.Shared.Effects.{is_built_name, is_value_name}
 use Rattle.pi_meaning.specs.Shared.Names.{is_call}
 use Rattle.pi_meaning.specs.CoreMeaning.Defined.{is_machine_predicate, CallsDefined}
 use Rattle.pi_core.specs.declared.core_program.CorePred.{CorePred}
@@ -60,7 +60,7 @@ neither false false isnt none is = absurd cc
 
 known-call : (ps : List CorePred) (name : List ℕ) (k : ℕ) → IsSome (find_pred false name k (map pred_tree ps)) ⊎ IsTrue (is_machine_predicate name k) → IsUnnamed ps false name k → IsNotBuiltIn false name k → ⊥
 known-call ps name k (inl some) none isnt = let f : Found ps false name k = find-named ps false name k some in none f.number f.is
-known-call ps name k (inr built) none isnt = neither (is_call name k) (is_effect_name name k) isnt.1 isnt.0 built
+known-call ps name k (inr built) none isnt = neither (is_call name k) (is_built_name name k) isnt.1 isnt.0 built
 
 known-function : (ps : List CorePred) (name : List ℕ) (k : ℕ) → IsSome (find_pred true name k (map pred_tree ps)) ⊎ IsTrue (is_value_name name k) → IsUnnamed ps true name k → IsNotBuiltIn true name k → ⊥
 known-function ps name k (inl some) none isnt = let f : Found ps true name k = find-named ps true name k some in none f.number f.is

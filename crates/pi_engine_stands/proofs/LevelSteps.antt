@@ -195,6 +195,7 @@ level-step w v mark p s fs n (Node.BuiltIn built name first arity) kind view g g
 level-step w v mark p s fs n (Node.BuiltInValue built name first arity slot) kind view g gs e k es pushed marks is level stands = absurd cc
 level-step w v mark p s fs n (Node.Constrain c name first arity) kind view g gs e k es pushed marks is level stands = absurd cc
 level-step w v mark p s fs n (Node.DomainValue f name first arity slot) kind view g gs e k es pushed marks is level stands = absurd cc
+level-step w v mark p s fs n (Node.Solve name first arity) kind view g gs e k es pushed marks is level stands = absurd cc
 level-step w v mark p s fs n (Node.Call q first) kind view g gs e k es pushed marks is level stands = absurd cc
 level-step w v mark p s fs n (Node.Apply q first into) kind view g gs e k es pushed marks is level stands = absurd cc
 level-step w v mark p s fs n (Node.Value value) kind view g gs e k es pushed marks is level stands = absurd cc
@@ -221,6 +222,7 @@ has-child t place collected (Node.BuiltIn built name first arity) kind g level s
 has-child t place collected (Node.BuiltInValue built name first arity slot) kind g level shown = absurd cc
 has-child t place collected (Node.Constrain c name first arity) kind g level shown = absurd cc
 has-child t place collected (Node.DomainValue f name first arity slot) kind g level shown = absurd cc
+has-child t place collected (Node.Solve name first arity) kind g level shown = absurd cc
 has-child t place collected (Node.Call q first) kind g level shown = absurd cc
 has-child t place collected (Node.Apply q first into) kind g level shown = absurd cc
 has-child t place collected (Node.Value value) kind g level shown = absurd cc

@@ -22,6 +22,7 @@ pub mod CatchAnswers
 pub mod WrittenGoals
 pub mod RaisesStand
 pub mod CaughtStand
+pub mod AlternativesStand
 pub mod AltersStand
 pub mod CountsStand
 pub mod SlotsGiven
@@ -78,3 +79,8 @@ pub mod TermRuns
 pub mod ComesBackLemmas
 pub mod CallsStay
 pub mod FactsStand
+pub mod SolveAsks
+pub mod SolveFilled
+pub mod SolveStands
+pub mod SolveLabels
+pub mod ConfinedRests

@@ -109,6 +109,7 @@ apply-node t b (Node.BuiltInValue built n first arity q) name args into reads fr
     let yes : true ≡ false = sym (function-value (slice_index_or t.names n []) arity reads.1.known) ∙ ap (λ x. is_value_name x arity) named ∙ ap (is_value_name name) many ∙ free in
     absurd cc
 apply-node t b (Node.Constrain c n first arity) name args into reads free h = absurd cc
+apply-node t b (Node.Solve n first arity) name args into reads free h = absurd cc
 apply-node t b (Node.DomainValue f n first arity q) name args into reads free h =
     let named : slice_index_or t.names n [] ≡ name = cc in
     let these : operand_trees t first arity ≡ args = cc in

@@ -6,8 +6,7 @@ use Rattle.pi_constraints.specs.State.{State, bindings, followed}
 use Rattle.pi_core.specs.GoalTree.{GoalTree, no_goals, goal}
 use Rattle.pi_core.specs.CoreTree.{PredTree, find_pred}
 use Rattle.pi_effects.specs.BuiltIns.{is_predicate}
-use Rattle.pi_meaning.specs.Shared.Effects.{is_effect_name}
-use Rattle.pi_meaning.proofs.Shared.EffectNames.{planner-no_effect}
+use Rattle.pi_meaning.specs.Shared.Effects.{is_built_name}
 use Rattle.pi_effects.specs.Exception.{type_error}
 use Rattle.pi_effects.specs.Items.{each_tree}
 use Rattle.pi_meaning.specs.Shared.Names.{is_later_predicate, is_planner, is_call}
@@ -23,6 +22,7 @@ use Rattle.pi_engine_code.specs.Callables.{place_in, HasPlace}
 use Rattle.pi_meaning.specs.Machine.Configuration.{Frame, going, raising, in_places}
 use Rattle.pi_meaning.specs.Machine.Step.{unknown_by, goal_called, named_now, term_now, first_now}
 use Rattle.pi_engine_stands.specs.Here.{IsHere}
+use Rattle.pi_meaning.proofs.Machine.SolveNames.{planner-no_built}
 use Rattle.pi_engine_stands.specs.Stands.{World, tables_in, steps_of, NamedHere, IsCodeOf}
 
 -- ---- planner calls have no goal where names are free
@@ -46,7 +46,7 @@ planner-unnamed : (preds : List PredTree) (name : List ℕ) (k : ℕ) (g : GoalT
 planner-unnamed preds name k _ free is (by_catch catches) = absurd (let other = (planner-others name k is).0 in cc)
 planner-unnamed preds name k _ free is (by_call not calls) = absurd (let other = (planner-others name k is).1 in cc)
 planner-unnamed preds name k _ free is (by_name not other there) =
-    neither-there (is_effect_name name k) (is_called_by_name (find_pred false name k preds)) (planner-no_effect name k is) (none-there preds name k free is (find_pred false name k preds) refl) there
+    neither-there (is_built_name name k) (is_called_by_name (find_pred false name k preds)) (planner-no_built name k is) (none-there preds name k free is (find_pred false name k preds) refl) there
 
 called-is : (preds : List PredTree) (name : List ℕ) (k : ℕ) (o : Option GoalTree) → NamesAreFree preds → goal_by_name preds name k ≡ o → (planner : Bool) → is_planner name k ≡ planner → goal_called preds name k ≡ o
 called-is preds name k o free by_it false is = ap (λ b. cond b None (goal_by_name preds name k)) is ∙ by_it

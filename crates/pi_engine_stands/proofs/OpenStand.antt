@@ -12,7 +12,7 @@ use Rattle.pi_meaning.specs.Machine.Configuration.{Entry as EntryData, choice, s
 use Rattle.pi_meaning.specs.Machine.Step.{Open, none_open, strict_open, catch_open, beneath, newest_open}
 use Rattle.pi_meaning.specs.Machine.Shape.{open_level, IsBalanced}
 use Rattle.pi_engine_stands.specs.Here.{Here, block_end}
-use Rattle.pi_engine_stands.specs.Stands.{World, Loaded, steps_of, entries_of, back_here, KindIs, rules_kind, facts_kind, branches_kind, once_kind, not_kind, if_kind, guard_kind, apply_kind, collect_kind, count_kind, catch_kind, exit_kind, block_at, EntryIs, StackIs, no_entries, entry_above, StackStands}
+use Rattle.pi_engine_stands.specs.Stands.{World, Loaded, steps_of, entries_of, back_here, KindIs, rules_kind, facts_kind, branches_kind, alternatives_kind, once_kind, not_kind, if_kind, guard_kind, apply_kind, collect_kind, count_kind, catch_kind, exit_kind, block_at, EntryIs, StackIs, no_entries, entry_above, StackStands}
 use Rattle.pi_engine_arenas.proofs.BlocksLemmas.{length-slots_before, brought_back-is}
 use Rattle.pi_engine_stands.proofs.StandsLemmas.{stack-length, open_level-within}
 use Rattle.pi_engine_stands.proofs.BasesStand.{shape-base}
@@ -97,6 +97,7 @@ choice-none : (l : Loaded) (c : List Tree) (h : Here) (t : State) (base frame sl
 choice-none l c h t base frame slots from to kind x b (rules_kind is over one) = one
 choice-none l c h t base frame slots from to kind x b (facts_kind is over one) = one
 choice-none l c h t base frame slots from to kind x b (branches_kind is at here last count one) = one
+choice-none l c h t base frame slots from to kind x b (alternatives_kind own are one) = one
 
 catch-none : (l : Loaded) (c : List Tree) (h : Here) (t : State) (base frame slots from to : ℕ) (kind : Kind) (ball : Tree) (handler : GoalTree) (b : Back) → KindIs l c h t base frame slots from to kind (catch_level ball handler b) → from ≡ to
 catch-none l c h t base frame slots from to kind ball handler b (catch_kind is stays one) = one

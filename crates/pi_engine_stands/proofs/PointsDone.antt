@@ -212,6 +212,7 @@ other-node (Node.BuiltIn built name first arity) no_true no_fail no_tick no_seq 
 other-node (Node.BuiltInValue built name first arity slot) no_true no_fail no_tick no_seq no_call = tt
 other-node (Node.Constrain c name first arity) no_true no_fail no_tick no_seq no_call = tt
 other-node (Node.DomainValue f name first arity slot) no_true no_fail no_tick no_seq no_call = tt
+other-node (Node.Solve name first arity) no_true no_fail no_tick no_seq no_call = tt
 other-node (Node.Call p first) no_true no_fail no_tick no_seq no_call = no_call p first refl
 other-node (Node.Apply p first into) no_true no_fail no_tick no_seq no_call = tt
 other-node (Node.Value o) no_true no_fail no_tick no_seq no_call = tt
@@ -236,6 +237,7 @@ silent-node (Node.BuiltIn built name first arity) other no_apply no_value no_ter
 silent-node (Node.BuiltInValue built name first arity slot) other no_apply no_value no_term = tt
 silent-node (Node.Constrain c name first arity) other no_apply no_value no_term = tt
 silent-node (Node.DomainValue f name first arity slot) other no_apply no_value no_term = tt
+silent-node (Node.Solve name first arity) other no_apply no_value no_term = tt
 silent-node (Node.Call p first) other no_apply no_value no_term = other
 silent-node (Node.Apply p first into) other no_apply no_value no_term = no_apply p first into refl
 silent-node (Node.Value o) other no_apply no_value no_term = no_value o refl

@@ -16,7 +16,7 @@ use Rattle.pi_meaning.specs.Machine.Configuration.{Entry as EntryData, choice, s
 use Rattle.pi_meaning.specs.Machine.Step.{silently, raise_step, below_left, Open, none_open, strict_open, newest_open}
 use Rattle.pi_meaning.specs.Machine.Shape.{open_level, IsBalanced}
 use Rattle.pi_engine_stands.specs.Here.{Here}
-use Rattle.pi_engine_stands.specs.Stands.{World, Loaded, entries_of, back_here, KindIs, rules_kind, facts_kind, branches_kind, once_kind, not_kind, if_kind, guard_kind, apply_kind, collect_kind, count_kind, catch_kind, exit_kind, IsAbove, StackIs, no_entries, entry_above, StackLies, raising_now}
+use Rattle.pi_engine_stands.specs.Stands.{World, Loaded, entries_of, back_here, KindIs, rules_kind, facts_kind, branches_kind, alternatives_kind, once_kind, not_kind, if_kind, guard_kind, apply_kind, collect_kind, count_kind, catch_kind, exit_kind, IsAbove, StackIs, no_entries, entry_above, StackLies, raising_now}
 use Rattle.pi_engine_stands.specs.Raises.{IsDropped, collected_below}
 use Rattle.pi_engine_stands.specs.Fails.{ComesTo}
 use Rattle.pi_terms.proofs.ListLemmas.{take-take}
@@ -69,6 +69,7 @@ unfolding raise_step
 gone l c h t base frame slots from to kind ball y fs drops (rules_kind is fits one) = record { starts = one; steps = refl }
 gone l c h t base frame slots from to kind ball y fs drops (facts_kind is fits one) = record { starts = one; steps = refl }
 gone l c h t base frame slots from to kind ball y fs drops (branches_kind is at here last count one) = record { starts = one; steps = refl }
+gone l c h t base frame slots from to kind ball y fs drops (alternatives_kind own are one) = record { starts = one; steps = refl }
 gone l c h t base frame slots from to kind ball y fs drops (once_kind own one) = record { starts = one; steps = refl }
 gone l c h t base frame slots from to kind ball y fs drops (not_kind own one) = record { starts = one; steps = refl }
 gone l c h t base frame slots from to kind ball y fs drops (if_kind own one) = record { starts = one; steps = refl }
@@ -132,6 +133,7 @@ exit-is : (l : Loaded) (c : List Tree) (h : Here) (t : State) (base frame slots 
 exit-is l c h t base frame slots from to kind y named (rules_kind is fits one) = absurd cc
 exit-is l c h t base frame slots from to kind y named (facts_kind is fits one) = absurd cc
 exit-is l c h t base frame slots from to kind y named (branches_kind is at here last count one) = absurd cc
+exit-is l c h t base frame slots from to kind y named (alternatives_kind own are one) = absurd cc
 exit-is l c h t base frame slots from to kind y named (once_kind own one) = absurd cc
 exit-is l c h t base frame slots from to kind y named (not_kind own one) = absurd cc
 exit-is l c h t base frame slots from to kind y named (if_kind own one) = absurd cc

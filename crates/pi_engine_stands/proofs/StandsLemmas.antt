@@ -14,7 +14,7 @@ use Rattle.pi_engine_arenas.specs.declared.arenas.Entry.{Entry}
 use Rattle.pi_meaning.specs.Machine.Configuration.{Entry as EntryData, choice, strict, catch_level, left, list_level}
 use Rattle.pi_meaning.specs.Machine.Shape.{open_level}
 use Rattle.pi_engine_stands.specs.Here.{Here, Ends}
-use Rattle.pi_engine_stands.specs.Stands.{World, entries_of, entry_ends, level_ends, back_here, Agrees, agrees_from, KindIs, rules_kind, facts_kind, branches_kind, once_kind, not_kind, if_kind, guard_kind, apply_kind, collect_kind, count_kind, catch_kind, exit_kind, EntryIs, IsAbove, StackIs, no_entries, entry_above, Loaded}
+use Rattle.pi_engine_stands.specs.Stands.{World, entries_of, entry_ends, level_ends, back_here, Agrees, agrees_from, KindIs, rules_kind, facts_kind, branches_kind, alternatives_kind, once_kind, not_kind, if_kind, guard_kind, apply_kind, collect_kind, count_kind, catch_kind, exit_kind, EntryIs, IsAbove, StackIs, no_entries, entry_above, Loaded}
 use Rattle.pi_engine_stands.proofs.HereLemmas.{part-agrees, take-agrees}
 
 -- the same run with another store and other arenas
@@ -120,6 +120,7 @@ pub kind-moves : (l : Loaded) (c d : List Tree) (h : Here) (s : State) (base fra
 kind-moves l c d h s base frame slots from to kind y same enough (rules_kind is over one) = rules_kind is over one
 kind-moves l c d h s base frame slots from to kind y same enough (facts_kind is over one) = facts_kind is over one
 kind-moves l c d h s base frame slots from to kind y same enough (branches_kind is at here last count one) = branches_kind is at here last count one
+kind-moves l c d h s base frame slots from to kind y same enough (alternatives_kind own are one) = alternatives_kind own are one
 kind-moves l c d h s base frame slots from to kind y same enough (once_kind is one) = once_kind is one
 kind-moves l c d h s base frame slots from to kind y same enough (not_kind is one) = not_kind is one
 kind-moves l c d h s base frame slots from to kind y same enough (if_kind is one) = if_kind is one
@@ -138,6 +139,7 @@ pub kind-order : (l : Loaded) (c : List Tree) (h : Here) (s : State) (base frame
 kind-order l c h s base frame slots from to kind y (rules_kind is over one) = omega (arith, one)
 kind-order l c h s base frame slots from to kind y (facts_kind is over one) = omega (arith, one)
 kind-order l c h s base frame slots from to kind y (branches_kind is at here last count one) = omega (arith, one)
+kind-order l c h s base frame slots from to kind y (alternatives_kind own are one) = omega (arith, one)
 kind-order l c h s base frame slots from to kind y (once_kind is one) = omega (arith, one)
 kind-order l c h s base frame slots from to kind y (not_kind is one) = omega (arith, one)
 kind-order l c h s base frame slots from to kind y (if_kind is one) = omega (arith, one)

@@ -15,6 +15,7 @@ use Rattle.pi_engine_code.specs.declared.code.Step.{Step}
 use Rattle.pi_lib_builtin.specs.Resolved.{IsFunctionNamed}
 use Rattle.pi_lib_constraints.specs.Named.{IsConstraintNamed}
 use Rattle.pi_engine_code.specs.Laid.{IsEffectOf, IsDomainFunctionNamed}
+use Rattle.pi_settling.specs.SolveCalls.{is_solve}
 use Rattle.pi_meaning.specs.Shared.Names.{is_call}
 use Rattle.pi_engine_code.specs.Code.{Tables, operand_tree, spelled_parts, StandsAt}
 use Rattle.pi_engine_arenas.specs.Frames.{frame_at}
@@ -86,6 +87,7 @@ NodeIsReadable t b (Node.BuiltIn p name first arity) = AreReadable t b first ari
 NodeIsReadable t b (Node.BuiltInValue f name first arity into) = AreReadable t b first arity × IsFunctionNamed (slice_index_or t.names name []) arity f × (into < b.count)
 NodeIsReadable t b (Node.Constrain g name first arity) = AreReadable t b first arity × IsConstraintNamed (slice_index_or t.names name []) arity g
 NodeIsReadable t b (Node.DomainValue f name first arity into) = AreReadable t b first arity × IsDomainFunctionNamed (slice_index_or t.names name []) arity f × (into < b.count)
+NodeIsReadable t b (Node.Solve name first arity) = AreReadable t b first arity × (is_solve (slice_index_or t.names name []) arity ≡ true)
 NodeIsReadable t b (Node.CallTerm first arity) = AreReadable t b first arity × (is_call (codes "call") arity ≡ true)
 NodeIsReadable t b node = ⊤
 

@@ -6,6 +6,7 @@ pub mod Settling
 pub mod Changes
 pub mod Views
 pub mod Makes
+pub mod Solves
 pub mod Does
 pub mod Fails
 pub mod Raises

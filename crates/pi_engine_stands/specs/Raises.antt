@@ -40,6 +40,7 @@ abbrev pub IsDropped : Kind → Type 0
 IsDropped (Kind.Rules p r) = ⊤
 IsDropped (Kind.Facts p r) = ⊤
 IsDropped (Kind.Branches place n) = ⊤
+IsDropped (Kind.Alternatives place it) = ⊤
 IsDropped (Kind.Strict s) = ⊤
 IsDropped kind = ⊥
 

@@ -24,3 +24,9 @@ NextAfter false before s p now = now ≡ Now.Failing
 abbrev pub NextCaught : State → Option State → State → Point → Option Now → Type 0
 NextCaught before o s p None = o ≡ None
 NextCaught before o s p (Some now) = (o ≡ Some s) × LeftBy before s × GoesOnTo before s p now
+
+-- What is next after a narrowing that began in the first state, by the state that it gives: the point, at once or once that state is settled; where it leaves no value,
+-- the newest entry.
+abbrev pub NextLeft : State → Option State → State → Point → Now → Type 0
+NextLeft before None s p now = now ≡ Now.Failing
+NextLeft before (Some r) s p now = (s ≡ r) × LeftBy before s × GoesOnTo before s p now

@@ -2,10 +2,10 @@
 use Rattle.pi_constraints.specs.Store.{Extend, Terms, StoreView, IsGood}
 use Rattle.pi_engine_code.specs.Laid.{IsNotBuiltIn}
 use Rattle.pi_engine_code.specs.LaidRules.{IsTestOf}
-use Rattle.std.specs.Prelude.{◌≡◌, ◌≢◌, ◌↔◌, ℕ, zero, suc, ◌+◌, ◌-◌, ◌≤◌, Bool, true, false, List, [], ◌∷◌, Option, Some, None, length, map, take, drop, slice_get, AllPairs, IsTrue, IsSome, is_some, ⊤}
+use Rattle.std.specs.Prelude.{◌≡◌, ◌≢◌, ◌↔◌, ℕ, zero, suc, ◌+◌, ◌-◌, ◌≤◌, Bool, true, false, List, [], ◌∷◌, Option, Some, None, length, map, take, drop, slice_get, AllPairs, IsTrue, IsSome, is_some, option_map, ⊤}
 use Rattle.pi_terms.specs.Tree.{Tree, Trees, comp}
 use Rattle.pi_terms.specs.Places.{Places}
-use Rattle.pi_constraints.specs.State.{State}
+use Rattle.pi_constraints.specs.State.{State, domain_of}
 use Rattle.pi_engine_stands.specs.Rests.{Rests}
 use Rattle.pi_core.specs.GoalTree.{GoalTree, GoalTrees, count_goals, truth, apply, if_else, not, once, collect, count, catch, goal, no_goals}
 use Rattle.pi_terms.specs.PatternTree.{PatternTrees, no_patterns, pattern}
@@ -25,6 +25,9 @@ use Rattle.pi_engine_code.specs.declared.code.Code.{Code}
 use Rattle.pi_engine_arenas.specs.declared.frames.Point.{Point}
 use Rattle.pi_engine_arenas.specs.declared.arenas.Kind.{Kind}
 use Rattle.pi_engine_arenas.specs.declared.arenas.Strict.{Strict}
+use Rattle.pi_engine_arenas.specs.declared.arenas.Alternatives.{Alternatives}
+use Rattle.pi_label.specs.Words.{value_word, alternative_of}
+use Rattle.pi_settling.specs.Choices.{Pending, Alternative, alternatives as alternatives_of}
 use Rattle.std.specs.Prelude.{Box}
 use Rattle.std.specs.Global.{Global}
 use Rattle.pi_engine_arenas.specs.declared.run.Settling.{Settling}
@@ -39,7 +42,7 @@ use Rattle.pi_meaning.specs.Machine.Shape.{open_level}
 use Rattle.pi_meaning.specs.Shared.Settle.{settlement}
 use Rattle.pi_engine_settle.specs.Due.{IsDueFor}
 use Rattle.pi_engine_settle.specs.Settles.{LeftBy}
-use Rattle.pi_meaning.specs.Machine.Configuration.{Called, rules_left, facts_left, branches_left, once_level, not_level, if_level, guard_level, value_level, list_level, number_level, Frame, Entry as EntryData, choice, strict, catch_level, left, Now as NowData, going, settling, telling, failed, raising, Config, config}
+use Rattle.pi_meaning.specs.Machine.Configuration.{Called, rules_left, facts_left, branches_left, alternatives_left, once_level, not_level, if_level, guard_level, value_level, list_level, number_level, Frame, Entry as EntryData, choice, strict, catch_level, left, Now as NowData, going, settling, telling, failed, raising, Config, config}
 use Rattle.pi_engine_arenas.specs.declared.run.Run.{Run}
 
 -- ---- programs in tables
@@ -174,6 +177,7 @@ ends_of l (Kind.Catch place) base = in_block (block_at l place base)
 ends_of l (Kind.Rules p r) base = with_value base
 ends_of l (Kind.Facts p r) base = with_value base
 ends_of l (Kind.Branches place n) base = with_value base
+ends_of l (Kind.Alternatives place it) base = with_value base
 ends_of l Kind.Exit base = with_value base
 
 -- how a level ends, by the number of its entry; without one the query has an answer
@@ -242,6 +246,20 @@ pub record GoalStands (l : Loaded) (h : Here) (base place frame : ℕ) (g : Goal
   pub behind : StandsBehind l h (block_at l place base) frame e k
   pub leaves : LeftBehind None last behind.leaves k
 
+-- so many alternatives were tried, and this is the last of them
+abbrev pub IsTriedLast : List Alternative → ℕ → Option Alternative → Type 0
+IsTriedLast all zero a = a ≡ None
+IsTriedLast all (suc k) a = (a ≢ None) × (slice_get all k ≡ a)
+
+-- the alternatives that a variable has in a state, those that follow the last one that was tried, of which there are some
+pub record AreAlternatives (s : State) (it : Alternatives) (p : Pending) (alts : List Alternative) : Type 0 where
+  pub variable : it.variable ≡ p.variable
+  pub domain : domain_of s p.variable ≡ Some p.domain
+  pub tried : ℕ
+  pub last : IsTriedLast (alternatives_of (value_word it.word) p.domain) tried (option_map alternative_of it.after)
+  pub left : alts ≡ drop tried (alternatives_of (value_word it.word) p.domain)
+  pub some : alts ≢ []
+
 -- What an entry stands for, by its kind and what it comes back to. Of the values that are collected, those from `from` to
 -- before `to` are the entry's. That of a function's call begins where the call's arguments do, behind the caller's block.
 pub data KindIs (l : Loaded) (collected : List Tree) (h : Here) (s : State) (base frame slots from to : ℕ) : Kind → EntryData → Type 0 where
@@ -254,6 +272,9 @@ pub data KindIs (l : Loaded) (collected : List Tree) (h : Here) (s : State) (bas
   branches_kind : {place n : ℕ} {b : Block} {g : GoalTree} {gs : GoalTrees} {last : Bool} {e : Places} {k : List Frame} → (behind : StandsBehind l h b frame e k) →
       b.base ≡ base → AreBranches (tables_in l) (steps_of l) b place (goal g gs) last → LeftBehind None last behind.leaves k → count_goals (goal g gs) ≡ n → from ≡ to →
       KindIs l collected h s base frame slots from to (Kind.Branches place n) (choice (branches_left (goal g gs)) (record { slots = e; state = s; frames = k }))
+  alternatives_kind : {place : ℕ} {it : Alternatives} {name : List ℕ} {args : List Tree} {p : Pending} {alts : List Alternative} {e : Places} {k : List Frame} →
+      GoalStands l h base place frame (GoalTree.call name args) e k → AreAlternatives s it p alts → from ≡ to →
+      KindIs l collected h s base frame slots from to (Kind.Alternatives place it) (choice (alternatives_left name args p alts) (record { slots = e; state = s; frames = k }))
   once_kind : {place : ℕ} {g : GoalTree} {e : Places} {k : List Frame} → GoalStands l h base place frame (once g) e k → from ≡ to →
       KindIs l collected h s base frame slots from to (Kind.Strict (Strict.Once place)) (strict once_level (record { slots = e; state = s; frames = k }))
   not_kind : {place : ℕ} {g : GoalTree} {e : Places} {k : List Frame} → GoalStands l h base place frame (not g) e k → from ≡ to →

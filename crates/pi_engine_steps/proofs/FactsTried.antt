@@ -28,7 +28,7 @@ use Rattle.pi_meaning.specs.Machine.Step.{with_fact, from_unifying, silently, fa
 use Rattle.pi_engine_facts.specs.Trying.{IsFirst, IsNext, numbered}
 use Rattle.pi_engine_facts.proofs.TryingLemmas.{next-there}
 use Rattle.pi_engine_stands.specs.Here.{Here, AreHeld, HoldsArguments}
-use Rattle.pi_engine_stands.specs.Stands.{World, Loaded, tables_in, back_here, IsPredicateOf, CallStands, KindIs, rules_kind, facts_kind, branches_kind, once_kind, not_kind, if_kind, guard_kind, apply_kind, collect_kind, count_kind, catch_kind, exit_kind, Stands}
+use Rattle.pi_engine_stands.specs.Stands.{World, Loaded, tables_in, back_here, IsPredicateOf, CallStands, KindIs, rules_kind, facts_kind, branches_kind, alternatives_kind, once_kind, not_kind, if_kind, guard_kind, apply_kind, collect_kind, count_kind, catch_kind, exit_kind, Stands}
 use Rattle.pi_engine_stands.specs.Tries.{CallIs, HasArguments, KeepsCall, keeps_new, keeps_own, LeavesLater, TriesFacts}
 use Rattle.pi_engine_stands.specs.Fails.{ComesTo, IsBack}
 use Rattle.pi_engine_stands.proofs.StandsLemmas.{moved}
@@ -176,6 +176,7 @@ facts-shape l c h t base frame slots from to p r kind y named (facts_kind {p = q
     (subst (λ m. FactsShape l h t base frame slots from to m n (choice (facts_left ts cs) (back_to [] t k))) same
     (record { args = ts; facts = cs; frames = k; stands = stands; over = over; one = one; is = refl }))
 facts-shape l c h t base frame slots from to p r kind y named (branches_kind is at here last count one) = absurd cc
+facts-shape l c h t base frame slots from to p r kind y named (alternatives_kind own are one) = absurd cc
 facts-shape l c h t base frame slots from to p r kind y named (once_kind own one) = absurd cc
 facts-shape l c h t base frame slots from to p r kind y named (not_kind own one) = absurd cc
 facts-shape l c h t base frame slots from to p r kind y named (if_kind own one) = absurd cc

@@ -6,3 +6,5 @@ mod GoalsLeave
 pub mod TermsCalled
 pub mod FactsTried
 pub mod FactsKeyed
+mod SolveAsked
+mod NarrowedStands

@@ -16,7 +16,7 @@ use Rattle.pi_engine_arenas.specs.declared.arenas.Entry.{Entry}
 use Rattle.pi_meaning.specs.Machine.Configuration.{Frame, Called, Entry as EntryData, choice, rules_left, Strict, strict, guard_level, Back as BackData}
 use Rattle.pi_meaning.specs.Machine.Step.{silently, try_rules, back_to, end_step, fail_step}
 use Rattle.pi_engine_stands.specs.Here.{Here, HoldsArguments, GoesOn}
-use Rattle.pi_engine_stands.specs.Stands.{World, Loaded, tables_in, steps_of, entries_of, now_here, back_here, agrees_from, IsPredicateOf, IsCall, CallStands, KindIs, rules_kind, facts_kind, branches_kind, once_kind, not_kind, if_kind, guard_kind, apply_kind, collect_kind, count_kind, catch_kind, exit_kind, EntryIs, StackIs, Stands}
+use Rattle.pi_engine_stands.specs.Stands.{World, Loaded, tables_in, steps_of, entries_of, now_here, back_here, agrees_from, IsPredicateOf, IsCall, CallStands, KindIs, rules_kind, facts_kind, branches_kind, alternatives_kind, once_kind, not_kind, if_kind, guard_kind, apply_kind, collect_kind, count_kind, catch_kind, exit_kind, EntryIs, StackIs, Stands}
 use Rattle.pi_engine_stands.specs.Tries.{own_entry, CallIs, TriesRules}
 use Rattle.pi_engine_stands.specs.Fails.{ComesTo, IsBack}
 use Rattle.pi_terms.proofs.ListLemmas.{take-take}
@@ -113,6 +113,7 @@ rules-shape l c h t base frame slots from to p r kind y named (rules_kind {p = q
     (record { called = called; rules = cs; frames = k; stands = stands; over = over; one = one; is = refl }))
 rules-shape l c h t base frame slots from to p r kind y named (facts_kind stands over one) = absurd cc
 rules-shape l c h t base frame slots from to p r kind y named (branches_kind is at here last count one) = absurd cc
+rules-shape l c h t base frame slots from to p r kind y named (alternatives_kind own are one) = absurd cc
 rules-shape l c h t base frame slots from to p r kind y named (once_kind own one) = absurd cc
 rules-shape l c h t base frame slots from to p r kind y named (not_kind own one) = absurd cc
 rules-shape l c h t base frame slots from to p r kind y named (if_kind own one) = absurd cc

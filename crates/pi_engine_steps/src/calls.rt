@@ -192,6 +192,7 @@ fn call_site(kind: Kind) -> Option<CallSite>
         Kind::Rules(_, _) => None,
         Kind::Facts(_, _) => None,
         Kind::Branches(_, _) => None,
+        Kind::Alternatives(_, _) => None,
         Kind::Catch(_) => None,
         Kind::Exit => None,
     }

@@ -13,6 +13,7 @@ use crate::constraints::{apply_domain, constrain};
 use crate::levels::enter_level;
 use crate::lists::count_collected;
 use crate::raises::{enter_catch, throw};
+use crate::solve::solve;
 use crate::terms::call_term;
 use crate::ticks::{tick, tick_call};
 use pi_constraints::{StateStore, StoredDomains};
@@ -206,6 +207,7 @@ fn run_silent<S: StoredDomains>(
         Node::DomainValue(function, _, operands, count, into) => {
             apply_domain(code, run, point, step, function, operands, count, into)
         }
+        Node::Solve(_, operands, count) => solve(code, run, point, step, operands, count),
         Node::Catch(ball) => enter_catch(code, run, point, step, ball),
         Node::If => enter_strict(code, run, point, step, Strict::If(point.place)),
         Node::Not => enter_strict(code, run, point, step, Strict::Not(point.place)),

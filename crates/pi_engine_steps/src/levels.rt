@@ -1,21 +1,26 @@
 //! Levels: how they are entered, what an answer of their goal does, and what it does that there is no further one.
-ghost use Rattle.std.specs.Prelude.{◌≡◌, ◌≢◌, ℕ, Some, IfOk, length, slice_get};
+ghost use Rattle.std.specs.Prelude.{◌≡◌, ◌≢◌, ℕ, Some, IfOk, IfErr, length, slice_get};
 ghost use Rattle.pi_engine_code.specs.declared.code.Predicate.{Predicate};
 ghost use Rattle.pi_engine_arenas.specs.Arenas.{view_of, IsLevel};
 ghost use Rattle.pi_engine_stands.specs.Makes.{RunsGoal, AnswersLevel, AnswersOpen, IsPassed, level_kind, once_at, not_at, if_at, count_at, guard_at, EntersCatch};
 ghost use Rattle.pi_engine_arenas.specs.declared.arenas.Back.{Back};
 ghost use Rattle.pi_engine_stands.specs.Fails.{Fails, PassesOver, EndsLevel};
 ghost use Rattle.pi_engine_stands.specs.Changes.{Changes, ChangesBy};
+ghost use Rattle.pi_engine_stands.specs.Goes.{counting};
+ghost use Rattle.pi_meaning.specs.Machine.Budget.{Counts};
+ghost use Rattle.pi_engine_arenas.specs.declared.arenas.Alternatives.{Alternatives};
 
 use crate::choices::{come_back, next_branch, one_goal, push_entry};
 use crate::facts::retry_facts;
+use crate::labels::try_alternative;
 use crate::lists::{add_value, give_list};
 use crate::raises::no_value;
 use crate::rules::{call_of, retry, take_guarded};
 use crate::values::slot_at;
-use pi_constraints::StateStore;
+use pi_constraints::{StateStore, StoredDomains};
 use pi_engine_arenas::{Back, End, Kind, Now, Point, Run, Strict, behind_level};
 use pi_engine_code::{Code, Node, Step};
+use pi_meaning::{Budget, Mode};
 use std::alloc::AllocError;
 
 /// Enters a level: its first child goal is run, behind which no frame says what follows.
@@ -62,6 +67,10 @@ pub fn answer_level<S: StateStore>(code: &Code<'_>, run: &mut Run<S>) -> Result<
             Ok(())
         }
         Kind::Branches(_, _) => {
+            run.now = Now::Failing;
+            Ok(())
+        }
+        Kind::Alternatives(_, _) => {
             run.now = Now::Failing;
             Ok(())
         }
@@ -166,9 +175,17 @@ fn leave_catch<S: StateStore>(run: &mut Run<S>, level: usize, back: Back) -> Res
     Ok(())
 }
 
-/// Goes on with the newest entry where a goal has no further answer; without one the run is done.
-pub fn fail<S: StateStore>(code: &Code<'_>, run: &mut Run<S>) -> Result<(), AllocError>
-    ensures { IfOk result (λ _. ChangesBy S.seen S.order code.now run.old run.new Fails) }
+/// Goes on with the newest entry where a goal has no further answer; without one the run is done. An alternative of a variable that is
+/// labelled counts a Tick.
+pub fn fail<S: StoredDomains>(
+    code: &Code<'_>,
+    mode: Mode,
+    run: &mut Run<S>,
+    budget: &mut Budget,
+) -> Result<(), AllocError>
+    ensures counts { Counts mode budget.old budget.new }
+    ensures fails { IfOk result (λ _. ChangesBy S.seen S.order code.now run.old run.new (Fails (counting mode budget.old budget.new))) }
+    ensures stops { IfErr result (λ _. budget.new ≡ budget.old) }
 {
     come_back(run);
     let Some(entry) = run.arenas.newest() else {
@@ -180,6 +197,10 @@ pub fn fail<S: StateStore>(code: &Code<'_>, run: &mut Run<S>) -> Result<(), Allo
             let call = call_of(&entry.back, predicate);
             retry(code, run, &call, next)
         }
+        Kind::Alternatives(place, left) => {
+            let back = entry.back;
+            try_alternative(mode, run, back, place, left, budget)
+        }
         _ => {
             let back = entry.back;
             go_on_with(code, run, back)
@@ -187,8 +208,8 @@ pub fn fail<S: StateStore>(code: &Code<'_>, run: &mut Run<S>) -> Result<(), Allo
     }
 }
 
-/// Goes on with the newest entry, which was come back to and doesn't wait for a call's rules. It stands by itself, so that an
-/// entry of rules is read in part alone.
+/// Goes on with the newest entry, which was come back to and waits for neither a call's rules nor alternatives of a labelling. It
+/// stands by itself, so that an entry of rules is read in part alone.
 #[inline(never)]
 fn go_on_with<S: StateStore>(
     code: &Code<'_>,
@@ -196,10 +217,15 @@ fn go_on_with<S: StateStore>(
     back: Back,
 ) -> Result<(), AllocError>
     ensures { IfOk result (λ _. ChangesBy S.seen S.order code.now run.old run.new
-        (λ made. ((predicate next : ℕ) → back.kind ≢ Kind.Rules predicate next) → PassesOver back made)) }
+        (λ made. ((predicate next : ℕ) → back.kind ≢ Kind.Rules predicate next) →
+        ((place : ℕ) (left : Alternatives) → back.kind ≢ Kind.Alternatives place left) → PassesOver back made)) }
 {
     match back.kind {
         Kind::Rules(_, _) => {
+            run.now = Now::Failing;
+            Ok(())
+        }
+        Kind::Alternatives(_, _) => {
             run.now = Now::Failing;
             Ok(())
         }

@@ -184,6 +184,10 @@ pub fn unwind<S: StateStore>(code: &Code<'_>, run: &mut Run<S>) -> Result<(), Al
             drop_entry(run, back);
             Ok(())
         }
+        Kind::Alternatives(_, _) => {
+            drop_entry(run, back);
+            Ok(())
+        }
         Kind::Strict(_) => {
             drop_entry(run, back);
             Ok(())
@@ -221,6 +225,7 @@ fn collected_before(kind: Kind, count: usize) -> usize
         Kind::Rules(_, _) => count,
         Kind::Facts(_, _) => count,
         Kind::Branches(_, _) => count,
+        Kind::Alternatives(_, _) => count,
         Kind::Catch(_) => count,
         Kind::Exit => count,
     }

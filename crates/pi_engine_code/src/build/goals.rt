@@ -14,6 +14,7 @@ use super::{Builder, Shape, short};
 use crate::code::{Code, Node, Step};
 use pi_constraints::StateStore;
 use pi_core::{CoreGoal, GoalNode};
+use pi_label::is_solve;
 use pi_lib_builtin::{function_named, predicate_named};
 use pi_lib_constraints::{constraint_named, domain_function_named};
 use pi_meaning::is_call;
@@ -134,8 +135,8 @@ impl Builder<'_> {
         }
     }
 
-    /// A call: of a term, of a built-in predicate, of a goal of constraints, or of a predicate that has a number. A name that is
-    /// none of these is no sound program's.
+    /// A call: of a term, of a built-in predicate, of a goal of constraints, of `solve`, or of a predicate that has a number. A
+    /// name that is none of these is no sound program's.
     fn call_of<S: StateStore>(
         &self,
         code: &mut Code<'_>,
@@ -170,6 +171,11 @@ impl Builder<'_> {
             let name = self.add_name(&mut code.names, name)?;
             let count = short(args.len())?;
             return Ok(Node::Constrain(goal, name, operands, count));
+        }
+        let count = short(args.len())?;
+        if is_solve(name.as_str(), count) {
+            let name = self.add_name(&mut code.names, name)?;
+            return Ok(Node::Solve(name, operands, count));
         }
         match self.numbers.get(false, name, args.len())? {
             Some(number) => Ok(Node::Call(number, operands)),

@@ -42,6 +42,9 @@ const CONSTRAINT_NAMES: [(&'static str, u32); 18] = [
     ("element", 3),
 ];
 
+/// The names of calls that label, each with its number of arguments.
+const SOLVE_NAMES: [(&'static str, u32); 2] = [("solve", 1), ("solve", 2)];
+
 impl Builder<'_> {
     /// Adds the goals by which names are called, and answers their places.
     pub(super) fn add_callables<S: StateStore>(
@@ -125,6 +128,7 @@ fn callable_names<'n>(
 {
     let mut names = predicate_names(alloc)?;
     names.extend_from_slice(&CONSTRAINT_NAMES)?;
+    names.extend_from_slice(&SOLVE_NAMES)?;
     names.push(("catch", 3))?;
     for more in 0..8 {
         names.push(("call", more + 1))?;

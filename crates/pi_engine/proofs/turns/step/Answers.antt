@@ -2,9 +2,9 @@ use Rattle.std.proofs.Common.{◌<◌, refl, sym, subst, arith}
 use Rattle.pi_engine_arenas.specs.declared.run.Now.{Now}
 use Rattle.pi_engine_arenas.specs.declared.run.End.{End}
 use Rattle.pi_engine_arenas.specs.Arenas.{view_of}
-use Rattle.pi_engine_stands.specs.Goes.{IsAt, IsIn}
+use Rattle.pi_engine_stands.specs.Goes.{IsAt, IsIn, counting}
 use Rattle.pi_engine_stands.specs.Stands.{World, Stands, world}
-use Rattle.pi_engine.specs.Turns.{StepIs, IsRunning, RunsAfter}
+use Rattle.pi_engine.specs.Turns.{StepIs, StepStops, IsRunning, RunsAfter}
 use Rattle.pi_engine_stands.proofs.StopsGo.{so-at-err}
 use Rattle.pi_engine.proofs.TurnsGo.{stops-there, ticks-is, told-is, fails-is, raises-is}
 use Rattle.pi_engine.proofs.turns.step.Goals as goal
@@ -32,7 +32,7 @@ returns-in_ok-fail-in-Failing-clause-is g c = λ running l is_code are v fits d 
     let end = c.fail.new.run in
     let w : World _ = world l (g.S.StateStore.seen run.store) g.S.StateStore.order (view_of run.arenas) in
     let after : World _ = world l (g.S.StateStore.seen end.store) g.S.StateStore.order (view_of end.arenas) in
-    fails-is w after v c.args.names.now c.args.mode c.args.budget.now end.now d refl (subst (λ n. IsIn v c.args.names.now w n d) c.in-Failing.is is) (c.in_ok-fail-in-Failing.ensures l is_code)
+    fails-is w after v c.args.names.now c.args.mode c.args.budget.now c.fail.new.budget end.now d refl fits c.fail.ensures.counts (subst (λ n. IsIn v c.args.names.now w n d) c.in-Failing.is is) (c.in_ok-fail-in-Failing.ensures.fails l is_code)
 
 pub returns-in_ok-unwind-in-Raising-clause-is : goal.returns-in_ok-unwind-in-Raising-clause-is
 returns-in_ok-unwind-in-Raising-clause-is g c = λ running l is_code are v fits d is.
@@ -72,7 +72,8 @@ returns-in_err-outcome-in-Going-clause-stops g c = so-at-err _ c.from_residual.r
 pub returns-in_err-fail-in-Failing-clause-stops : goal.returns-in_err-fail-in-Failing-clause-stops
 returns-in_err-fail-in-Failing-clause-stops g c = so-at-err _ c.from_residual-in_err-fail-in-Failing.result (λ running l is_code v fits d is.
     let run = c.args.run.now in
-    stops-there v c.args.names.now c.args.mode c.args.budget.now (world l (g.S.StateStore.seen run.store) g.S.StateStore.order (view_of run.arenas)) d is.good)
+    let w : World _ = world l (g.S.StateStore.seen run.store) g.S.StateStore.order (view_of run.arenas) in
+    subst (λ b. StepStops v c.args.names.now (counting c.args.mode c.args.budget.now b) w d) (sym c.in_err-fail-in-Failing.ensures.stops) (stops-there v c.args.names.now c.args.mode c.args.budget.now w d is.good))
 
 pub returns-in_err-unwind-in-Raising-clause-stops : goal.returns-in_err-unwind-in-Raising-clause-stops
 returns-in_err-unwind-in-Raising-clause-stops g c = so-at-err _ c.from_residual-in_err-unwind-in-Raising.result (λ running l is_code v fits d is.

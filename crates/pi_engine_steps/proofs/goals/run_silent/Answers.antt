@@ -44,3 +44,6 @@ returns-in-Constrain g c = IfOk-weaker c.constrain.result _ _ (λ _ so l is_code
 
 pub returns-in-DomainValue : goal.returns-in-DomainValue
 returns-in-DomainValue g c = IfOk-weaker c.apply_domain.result _ _ (λ _ so l is_code other silent view fits. so c.in-DomainValue.field-1 c.in-DomainValue.is l is_code view) c.apply_domain.ensures
+
+pub returns-in-Solve : goal.returns-in-Solve
+returns-in-Solve g c = IfOk-weaker c.solve.result _ _ (λ _ so l is_code other silent view fits. so c.in-Solve.field-0 c.in-Solve.is l is_code view) c.solve.ensures

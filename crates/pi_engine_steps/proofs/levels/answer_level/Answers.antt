@@ -38,6 +38,13 @@ returns-in-Branches g c = λ l is_code some view names p e k es stands none last
     let is : IsLevel (view_of run.arenas) run.arenas.level back = record { entry = c.in-Some.entry.now; at = c.in-Some.ensures.some; back_is = refl; is_open = refl } in
     absurd (no-value-answer (world l (g.S.StateStore.seen run.store) g.S.StateStore.order (view_of run.arenas)) run.arenas.level back (Kind.Branches c.in-Branches.field-0 c.in-Branches.field-1) p e k es is c.in-Branches.is (λ base. refl) stands none last)
 
+pub returns-in-Alternatives : goal.returns-in-Alternatives
+returns-in-Alternatives g c = λ l is_code some view names p e k es stands none last balanced.
+    let run = c.args.run.now in
+    let back = c.in-Some.entry.now.back in
+    let is : IsLevel (view_of run.arenas) run.arenas.level back = record { entry = c.in-Some.entry.now; at = c.in-Some.ensures.some; back_is = refl; is_open = refl } in
+    absurd (no-value-answer (world l (g.S.StateStore.seen run.store) g.S.StateStore.order (view_of run.arenas)) run.arenas.level back (Kind.Alternatives c.in-Alternatives.field-0 c.in-Alternatives.field-1) p e k es is c.in-Alternatives.is (λ base. refl) stands none last)
+
 pub returns-in-Exit : goal.returns-in-Exit
 returns-in-Exit g c = λ l is_code some view names p e k es stands none last balanced.
     let run = c.args.run.now in

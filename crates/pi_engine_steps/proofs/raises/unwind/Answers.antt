@@ -27,5 +27,8 @@ returns-in-Facts g c = λ l is_code ball es raising stands balanced. c.drop_entr
 pub returns-in-Branches : goal.returns-in-Branches
 returns-in-Branches g c = λ l is_code ball es raising stands balanced. c.drop_entry-in-Branches.ensures l (subst IsDropped (sym c.in-Branches.is) tt) c.in-Some.entry.now c.in-Some.ensures.some refl ball es raising stands balanced
 
+pub returns-in-Alternatives : goal.returns-in-Alternatives
+returns-in-Alternatives g c = λ l is_code ball es raising stands balanced. c.drop_entry-in-Alternatives.ensures l (subst IsDropped (sym c.in-Alternatives.is) tt) c.in-Some.entry.now c.in-Some.ensures.some refl ball es raising stands balanced
+
 pub returns-in-Strict : goal.returns-in-Strict
 returns-in-Strict g c = λ l is_code ball es raising stands balanced. c.drop_entry-in-Strict.ensures l (subst IsDropped (sym c.in-Strict.is) tt) c.in-Some.entry.now c.in-Some.ensures.some refl ball es raising stands balanced

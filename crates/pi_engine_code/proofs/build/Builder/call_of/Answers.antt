@@ -4,12 +4,14 @@ use Rattle.pi_meaning.specs.Shared.Names.{is_call}
 use Rattle.pi_lib_builtin.specs.Resolved.{IsPredicateNamed}
 use Rattle.pi_lib_constraints.specs.Named.{IsConstraintNamed}
 use Rattle.pi_settling.specs.Goals.{is_constraint_goal}
+use Rattle.pi_settling.specs.SolveCalls.{is_solve}
+use Rattle.pi_meaning.specs.Shared.Effects.{is_effect_name}
 use Rattle.std.specs.Prelude.{codes}
 use Rattle.std.specs.Str.{bytes_eq}
 use Rattle.std.proofs.lemmas.Slice.Eq.{bytes_eq-Decides}
 use Rattle.pi_engine_code.specs.Laid.{tables_for, IsNotBuiltIn}
 use Rattle.pi_engine_code.proofs.CalledNames.{is-call}
-use Rattle.pi_engine_code.proofs.LaidBuiltIns.{built-in-laid, constraint-laid, neither-built}
+use Rattle.pi_engine_code.proofs.LaidBuiltIns.{built-in-laid, constraint-laid, solve-laid, neither-built}
 use Rattle.pi_engine_code.proofs.LaidTerms.{wider-added, operand-wider}
 use Rattle.pi_engine_code.proofs.LaidOperands.{unnamed, two-terms, one-term, same-call}
 use Rattle.pi_engine_code.proofs.build.Builder.call_of.Goals.{else-args-eq2-via-then-args-eq2+else-eq, else-args-eq2-via-else-args-eq2}
@@ -80,14 +82,36 @@ returns-in-Some-constraint_named-clause-is g c = λ preds numbered.
     (subst (λ o. IfSome o (λ g. IsConstraintNamed c.as_str-4.result.now (length c.args.args.now) g)) c.in-Some-constraint_named.is c.constraint_named.ensures.some)
     (c.in_ok-operands.ensures.are preds)
 
+pub returns-then-is_solve-clause-is : goal.returns-then-is_solve-clause-is
+returns-then-is_solve-clause-is g c = λ preds numbered.
+    solve-laid preds (g.S.StateStore.seen c.add_operands.new.store) c.add_operands.new.code
+    (record {
+      core = c.add_operands.new.code.core;
+      helpers = c.add_operands.new.code.helpers;
+      steps = c.add_operands.new.code.steps;
+      operands = c.add_operands.new.code.operands;
+      parts = c.add_operands.new.code.parts;
+      names = c.add_name-then-is_solve.new.names;
+      tests = c.add_operands.new.code.tests;
+      rules = c.add_operands.new.code.rules;
+      predicates = c.add_operands.new.code.predicates;
+      callables = c.add_operands.new.code.callables;
+      keys = c.add_operands.new.code.keys;
+    }) c.args.name.now c.as_str-5.result.now c.args.args.now c.in_ok-name-3.name c.in_ok-operands.operands c.in_ok-count-3.count c.in_ok-name-3.ensures.added c.in_ok-name-3.ensures.place c.in_ok-count-3.ensures c.as_str-5.ensures
+    (sym c.is_solve.ensures ∙ c.if-is_solve.true) (c.in_ok-operands.ensures.are preds)
+
 pub returns-in-None-clause-is : goal.returns-in-None-clause-is
 returns-in-None-clause-is g c = λ preds numbered.
     let no_table : is_predicate c.as_str-3.result.now (length c.args.args.now) ≡ false = subst (λ o. IfNone o (is_predicate c.as_str-3.result.now (length c.args.args.now) ≡ false)) c.in_default.is c.predicate_named.ensures.none in
     let no_goal : is_constraint_goal c.as_str-4.result.now (length c.args.args.now) ≡ false =
     subst (λ o. IfNone o (is_constraint_goal c.as_str-4.result.now (length c.args.args.now) ≡ false)) c.in_default-constraint_named.is c.constraint_named.ensures.none in
+    let labels : is_solve c.args.name.now (length c.args.args.now) ≡ false =
+    subst (λ n. is_solve n (length c.args.args.now) ≡ false) c.as_str-5.ensures (subst (λ k. is_solve c.as_str-5.result.now k ≡ false) c.in_ok-count-3.ensures (sym c.is_solve.ensures ∙ c.if-is_solve.false)) in
+    let effects : is_effect_name c.args.name.now (length c.args.args.now) ≡ false =
+    neither-built (is_predicate c.args.name.now (length c.args.args.now)) (is_constraint_goal c.args.name.now (length c.args.args.now))
+    (subst (λ n. is_predicate n (length c.args.args.now) ≡ false) c.as_str-3.ensures no_table) (subst (λ n. is_constraint_goal n (length c.args.args.now) ≡ false) c.as_str-4.ensures no_goal) in
     let free : IsNotBuiltIn false c.args.name.now (length c.args.args.now) = (
-      neither-built (is_predicate c.args.name.now (length c.args.args.now)) (is_constraint_goal c.args.name.now (length c.args.args.now))
-          (subst (λ n. is_predicate n (length c.args.args.now) ≡ false) c.as_str-3.ensures no_table) (subst (λ n. is_constraint_goal n (length c.args.args.now) ≡ false) c.as_str-4.ensures no_goal),
+      neither-built (is_effect_name c.args.name.now (length c.args.args.now)) (is_solve c.args.name.now (length c.args.args.now)) effects labels,
       subst (λ n. is_call n (length c.args.args.now) ≡ false) c.as_str-2.ensures (sym c.is_call.ensures ∙ c.if-is_call.false),
     ) in
     inr (unnamed c.args.self.now.numbers preds false c.args.name.now (length c.args.args.now) c.in_ok-number.field-0 numbered c.in_ok-number.ensures c.in-None.is, free)
