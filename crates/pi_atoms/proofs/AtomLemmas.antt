@@ -1,15 +1,16 @@
 -- The names of atoms: a table of strings stays without two that are the same.
-use Rattle.std.proofs.Common.{◌≡◌, ◌⊎◌, ℕ, zero, suc, Bool, true, false, List, [], ◌∷◌, ◌++◌, length, Some, refl, ap, sym, ◌∙◌, inl, inr, map, subst, if◌then◌else◌}
+use Rattle.std.proofs.Common.{◌≡◌, ◌⊎◌, ℕ, zero, suc, ◌+◌, ◌<◌, ◌≤◌, Bool, true, false, List, [], ◌∷◌, ◌++◌, length, Some, refl, ap, sym, ◌∙◌, inl, inr, map, subst, if◌then◌else◌, arith, ⊎_elim}
+use Rattle.std.proofs.lemmas.Bool.{cases_lt}
 use Rattle.std.proofs.Math.ListN.{get_or}
-use Rattle.std.specs.Prelude.{slice_get, position, ◌||◌, option_map, String}
-use Rattle.std.specs.List.{list_any}
+use Rattle.std.specs.Prelude.{slice_get, position, not, ◌||◌, option_map, String}
+use Rattle.std.specs.List.{list_any, AllZip}
 use Rattle.std.specs.Str.{bytes_eq}
 use Rattle.std.specs.String.{string_bytes}
 use Rattle.std.specs.declared.alloc.Global.{Global}
 use Rattle.std.proofs.lemmas.Slice.Eq.{bytes_eq-Decides}
 use Rattle.std.proofs.lemmas.List.{map-append, append-nil}
 use Rattle.std.proofs.lemmas.List.Quantifiers.{position-Some}
-use Rattle.std.proofs.lemmas.Option.{slice_get-get_or, slice_get-map}
+use Rattle.std.proofs.lemmas.Option.{slice_get-get_or, slice_get-map, slice_get_within}
 use Rattle.pi_atoms.specs.Names.{HasDistinct, Gains}
 
 abbrev Strings : Type 0
@@ -91,3 +92,40 @@ grows_after ks ms k b names name e f t =
     let at : bytes_of ms ≡ names ++ g.0 = ap bytes_of e ∙ (g.1 ∙ ap (λ l. l ++ g.0) f) in
     let P : List ℕ → Type 0 = λ x. (g.0 ≡ []) ⊎ (g.0 ≡ x ∷ []) in
     (g.0, at, subst P t g.2)
+
+-- strings that are the same one by one have the same bytes
+pub same_names : (ks ms : Strings) → AllZip (λ s t. string_bytes t ≡ string_bytes s) ks ms → bytes_of ms ≡ bytes_of ks
+same_names [] [] a = refl
+same_names [] (m ∷ ms) a = absurd a
+same_names (k ∷ ks) [] a = absurd a
+same_names (k ∷ ks) (m ∷ ms) a = λ i. a.0 i ∷ same_names ks ms a.1 i
+
+pub distinct_copied : (ks ms : Strings) → AllZip (λ s t. string_bytes t ≡ string_bytes s) ks ms → HasDistinct (bytes_of ks) → HasDistinct (bytes_of ms)
+distinct_copied ks ms a d = subst (λ (names : List (List ℕ)). HasDistinct names) (sym (same_names ks ms a)) d
+
+not_no : (b : Bool) → false ≡ not b → b ≡ true
+not_no true e = refl
+not_no false e = absurd (cc)
+
+pub same_text : (x y : List ℕ) → false ≡ not (bytes_eq x y) → x ≡ y
+same_text x y e = same_bytes x y (not_no (bytes_eq x y) e)
+
+abbrev HasThoseBelow : ℕ → List (List ℕ) → List (List ℕ) → Type 0
+HasThoseBelow k xs ys = (j : ℕ) (name : List ℕ) → j < k → slice_get ys j ≡ Some name → slice_get xs j ≡ Some name
+
+-- one more number has the same name in both
+pub same_next : (xs ys : List (List ℕ)) (k : ℕ) (x y : List ℕ) → length ys ≤ length xs → k < length ys → HasThoseBelow k xs ys
+    → ((name : List ℕ) → slice_get xs k ≡ Some name → x ≡ name) → ((name : List ℕ) → slice_get ys k ≡ Some name → y ≡ name) → x ≡ y → HasThoseBelow (k + 1) xs ys
+same_next xs ys k x y le lt before left right same j name at e = ⊎_elim
+    (λ below. before j name below e)
+    (λ above.
+    let is : j ≡ k = omega arith in
+    let here : slice_get ys k ≡ Some name = sym (ap (λ n. slice_get ys n) is) ∙ e in
+    let has : slice_get xs k ≡ Some (get_or xs k []) = slice_get-get_or xs k [] (omega arith) in
+    ap (λ n. slice_get xs n) is ∙ (has ∙ ap Some (sym (left _ has) ∙ (same ∙ right name here))))
+    (cases_lt j k)
+
+pub same_all : (xs ys : List (List ℕ)) (k : ℕ) → length ys ≤ k → HasThoseBelow k xs ys → (j : ℕ) (name : List ℕ) → slice_get ys j ≡ Some name → slice_get xs j ≡ Some name
+same_all xs ys k le all j name e =
+    let lt : j < length ys = slice_get_within ys j name e in
+    all j name (omega arith) e

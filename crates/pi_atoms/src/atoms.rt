@@ -1,5 +1,5 @@
 //! Names, each with a number.
-ghost use Rattle.std.specs.Prelude.{◌≡◌, ℕ, List, [], length, Some, slice_get, slice_index_or, IfOk};
+ghost use Rattle.std.specs.Prelude.{◌≡◌, ℕ, List, [], length, Some, slice_get, slice_index_or, IfOk, IsTrue};
 ghost use Rattle.pi_atoms.specs.Names.{HasDistinct, Gains};
 
 use indexmap::IndexSet;
@@ -41,6 +41,14 @@ impl Atoms {
         }
     }
 
+    /// The same names with the same numbers, apart.
+    pub fn copied(&self) -> Result<Atoms, AllocError>
+        ensures { IfOk result (λ made. made ≡ self.now) }
+    {
+        let names = self.names.clone()?;
+        Ok(Atoms { names })
+    }
+
     /// How many names there are.
     pub fn len(&self) -> usize
         ensures { result ≡ length self.now }
@@ -71,5 +79,20 @@ impl Atoms {
             Some(name) => name.as_str(),
             None => "",
         }
+    }
+
+    /// Whether each number of the other ones has the same name here. It takes no memory.
+    pub fn has_all(&self, other: &Atoms) -> bool
+        ensures { IsTrue result → (k : ℕ) (name : List ℕ) → slice_get other.now k ≡ Some name → slice_get self.now k ≡ Some name }
+    {
+        if self.len() < other.len() {
+            return false;
+        }
+        for k in 0..other.len() {
+            if self.name(k as u64) != other.name(k as u64) {
+                return false;
+            }
+        }
+        true
     }
 }

@@ -19,17 +19,27 @@ use Rattle.pi_constraints.specs.declared.event.Activation.{Activation}
 abbrev pub Terms : Type 0
 Terms = ℕ → Option Tree
 
--- what a store holds at one moment
+-- what a store holds at one moment; and the words of which it consists, in a store that can keep a state beside a mark
 pub record Moment : Type 0 where
   pub state : State
   pub terms : Terms
+  pub words : List (List ℕ)
 
--- a store, over its marks: what it holds now, what each mark brings back, which marks are good, and the names of its
--- atoms by their numbers, which are never taken back
+-- a state that is kept beside a mark: the words of which the store consists where it comes back to the mark, the state, and the names of atoms
+-- in it; and a number that whoever keeps it chose
+pub record Beside : Type 0 where
+  pub from : List (List ℕ)
+  pub state : State
+  pub names : List (List ℕ)
+  pub number : ℕ
+
+-- a store, over its marks: what it holds now, what each mark brings back, which marks are good, what each keeps beside that, and the names of
+-- its atoms by their numbers, which are never taken back
 pub record StoreView (Mark : Type 0) : Type 0 where
   pub now : Moment
   pub at_mark : Mark → Moment
   pub is_good : Mark → Bool
+  pub beside : Mark → Option Beside
   pub names : List (List ℕ)
 
 -- a mark is good, as one is that was made at or before the present state and not undone past
@@ -77,11 +87,12 @@ abbrev pub ShowsAgent : {M : Type 0} → StoreView M → ℕ → Option AgentVie
 ShowsAgent v n None = (a : Agent) → slice_get v.now.state.agents n ≡ Some a → a.alive ≡ false
 ShowsAgent v n (Some shown) = (a : Agent) × (slice_get v.now.state.agents n ≡ Some a) × (a.alive ≡ true) × IsTerm v shown.call a.call × (shown.rule ≡ a.rule)
 
--- What stays in every call but `undo`: good marks are good and bring back the same, Refs have the same terms, atoms the
--- same names
+-- What stays in every call but `undo`: good marks are good and bring back the same, each keeps the same beside, Refs have the same terms,
+-- atoms the same names
 pub record Keeps {M : Type 0} (v w : StoreView M) : Type 0 where
   pub good : (m : M) → IsGood v m → IsGood w m
   pub same : (m : M) → IsGood v m → w.at_mark m ≡ v.at_mark m
+  pub beside : (m : M) → w.beside m ≡ v.beside m
   pub terms : (r : Ref) (t : Tree) → IsTerm v r t → IsTerm w r t
   pub names : (k : ℕ) (name : List ℕ) → IsName v k name → IsName w k name
 
@@ -99,16 +110,18 @@ pub record Gives {M : Type 0} (v w : StoreView M) (s : State) (r : Ref) (t : Tre
   pub changes : Changes v w s
   pub term : IsTerm w r t
 
--- A mark that is made: it brings back what the store held, and its order is not below that of any good mark
+-- A mark that is made: it brings back what the store held, keeps nothing beside, and its order is not below that of any good mark
 pub record Marks {M : Type 0} (order : M → ℕ) (v w : StoreView M) (m : M) : Type 0 where
   pub stays : Stays v w
   pub good : IsGood w m
   pub brings_back : w.at_mark m ≡ v.now
+  pub nothing : w.beside m ≡ None
   pub newest : (n : M) → IsGood v n → order n ≤ order m
 
 -- A return to a mark: the store holds what it held then; marks that are not newer stay good
 pub record Returns {M : Type 0} (order : M → ℕ) (v w : StoreView M) (m : M) : Type 0 where
   pub now : w.now ≡ v.at_mark m
+  pub beside : (n : M) → w.beside n ≡ v.beside n
   pub good : (n : M) → IsGood v n → order n ≤ order m → IsGood w n
   pub same : (n : M) → IsGood v n → order n ≤ order m → w.at_mark n ≡ v.at_mark n
   pub names : (k : ℕ) (name : List ℕ) → IsName v k name → IsName w k name
@@ -157,3 +170,28 @@ HasChanged s u n = IsUnbound s n × ((held (bindings u) n ≢ None) ⊎ (domain_
 -- terms that are there at one moment are the same at a later one
 abbrev pub Extend : Terms → Terms → Type 0
 Extend t u = (n : ℕ) (x : Tree) → t n ≡ Some x → u n ≡ Some x
+
+-- ---- a state beside a mark
+
+-- names of atoms, by their numbers, are those of a store
+abbrev pub AreNames : {M : Type 0} → StoreView M → List (List ℕ) → Type 0
+AreNames v names = (k : ℕ) (name : List ℕ) → slice_get names k ≡ Some name → IsName v k name
+
+-- what a mark keeps beside can be brought back where the store comes back to the mark
+abbrev pub StandsBeside : {M : Type 0} → StoreView M → M → Type 0
+StandsBeside v m = (b : Beside) → v.beside m ≡ Some b → (b.from ≡ (v.at_mark m).words) × AreNames v b.names
+
+-- A mark that brings back what another one does, and keeps the present state beside, with a number
+pub record KeepsBeside {M : Type 0} (order : M → ℕ) (v : StoreView M) (m kept : M) (number : ℕ) : Type 0 where
+  pub order_is : order kept ≡ order m
+  pub good : IsGood v kept
+  pub same : v.at_mark kept ≡ v.at_mark m
+  pub beside : Beside
+  pub is_beside : v.beside kept ≡ Some beside
+  pub state : beside.state ≡ v.now.state
+  pub number_is : beside.number ≡ number
+  pub stands : StandsBeside v kept
+
+-- A state that was kept beside a mark is brought back, where the store has come back to that mark
+abbrev pub BringsBack : {M : Type 0} → StoreView M → StoreView M → M → Type 0
+BringsBack v w m = (b : Beside) → v.beside m ≡ Some b → b.from ≡ v.now.words → AreNames v b.names → Changes v w b.state

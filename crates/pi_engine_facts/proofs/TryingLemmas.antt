@@ -22,6 +22,7 @@ returned {M = M} order v w x u m marks keeps returns =
       keeps = record {
         good = λ n h. returns.good n (good n h) (marks.newest n h);
         same = λ n h. returns.same n (good n h) (marks.newest n h) ∙ (keeps.same n (marks.stays.keeps.good n h) ∙ marks.stays.keeps.same n h);
+        beside = λ n. returns.beside n ∙ (keeps.beside n ∙ marks.stays.keeps.beside n);
         terms = λ r t h. subst (λ o. o.terms r.number ≡ Some t) (sym back) h;
         names = λ k name h. returns.names k name (keeps.names k name (marks.stays.keeps.names k name h));
       };

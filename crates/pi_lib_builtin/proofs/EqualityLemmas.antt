@@ -17,6 +17,7 @@ undone-stays order v x y z m marks keeps returns =
       keeps = record {
         good = λ n h. back.good n (keeps.good n (marks.stays.keeps.good n h)) (marks.newest n h);
         same = λ n h. back.same n (keeps.good n (marks.stays.keeps.good n h)) (marks.newest n h) ∙ keeps.same n (marks.stays.keeps.good n h) ∙ marks.stays.keeps.same n h;
+        beside = λ n. back.beside n ∙ (keeps.beside n ∙ marks.stays.keeps.beside n);
         terms = λ r t h. ap (λ p. p.terms r.number) now ∙ h;
         names = λ k name h. back.names k name (keeps.names k name (marks.stays.keeps.names k name h));
       };

@@ -24,12 +24,13 @@ use Rattle.pi_queue.specs.Leaving.{IsLater}
 -- ---- calls one after the other
 
 pub keeps-itself : {M : Type 0} (v : StoreView M) → Keeps v v
-keeps-itself v = record { good = λ m h. h; same = λ m h. refl; terms = λ r t h. h; names = λ k name h. h }
+keeps-itself v = record { good = λ m h. h; same = λ m h. refl; beside = λ m. refl; terms = λ r t h. h; names = λ k name h. h }
 
 pub keeps-then : {M : Type 0} (u v w : StoreView M) → Keeps u v → Keeps v w → Keeps u w
 keeps-then u v w f g = record {
   good = λ m h. g.good m (f.good m h);
   same = λ m h. g.same m (f.good m h) ∙ f.same m h;
+  beside = λ m. g.beside m ∙ f.beside m;
   terms = λ r t h. g.terms r t (f.terms r t h);
   names = λ k name h. g.names k name (f.names k name h);
 }

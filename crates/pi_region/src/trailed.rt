@@ -65,6 +65,21 @@ impl Trailed {
         }
     }
 
+    /// The same words in memory of their own, as much as they take. They can be taken back as these can.
+    pub fn copied(&self, alloc: Global) -> Result<Trailed, AllocError>
+        ensures { IfOk result (λ made. made ≡ self.now) }
+    {
+        Ok(Trailed {
+            region: self.region.copied(alloc)?,
+            trail: self.trail,
+            variables: self.variables.copied(alloc)?,
+            constraints: self.constraints.copied(alloc)?,
+            agents: self.agents.copied(alloc)?,
+            waiting: self.waiting.copied(alloc)?,
+            heads: self.heads.copied(alloc)?,
+        })
+    }
+
     /// The region, emptied, with its block.
     pub fn into_words(self) -> Words
         ensures { result.words ≡ [] }

@@ -1,5 +1,5 @@
 //! A list of words that grows at its end.
-ghost use Rattle.std.specs.Prelude.{◌≡◌, ◌<◌, ◌^◌, ◌-◌, [], ◌∷◌, ◌++◌, length, take, map, slice_index, slice_set, IfOk, OnErr};
+ghost use Rattle.std.specs.Prelude.{◌≡◌, ◌<◌, ◌^◌, ◌-◌, [], ◌∷◌, ◌++◌, length, drop, take, map, slice_index, slice_set, IfOk, OnErr};
 ghost use Rattle.pi_region.specs.Image.{numbers_of};
 
 use crate::words::Words;
@@ -44,6 +44,15 @@ impl WordList {
         ensures { result.words ≡ self }
     {
         self.words
+    }
+
+    /// The same words in a region of their own, which has no room for more.
+    pub fn copied(&self, alloc: Global) -> Result<WordList, AllocError>
+        ensures { IfOk result (λ made. made ≡ self.now) }
+    {
+        Ok(WordList {
+            words: self.words.copied(alloc)?,
+        })
     }
 
     /// How many words there are.
@@ -136,6 +145,18 @@ impl WordList {
             self.words.push(r.number);
         }
         self.words.push(last);
+        Ok(())
+    }
+
+    /// The words of another list from a place on, or none.
+    pub fn append_from(&mut self, more: &WordList, place: usize) -> Result<(), AllocError>
+        ensures ok { IfOk result (λ _. self.new ≡ self.old ++ drop place more.now) }
+        ensures err { OnErr result (self.new ≡ self.old) }
+    {
+        self.words.reserve(more.len().saturating_sub(place))?;
+        for n in place..more.len() {
+            self.words.push(more.get(n));
+        }
         Ok(())
     }
 

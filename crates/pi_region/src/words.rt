@@ -12,7 +12,7 @@ use std::marker::Model;
 const MOST_WORDS: usize = isize::MAX as usize / 8;
 
 /// A list of words in one block of memory, which is given back when the region is dropped. Only
-/// `reserve` takes memory, and no other call but `reserve` moves or frees the block.
+/// `reserve` takes memory for it, and no other call but `reserve` moves or frees the block.
 #[derive(Drop)]
 pub struct Words {
     block: Block,
@@ -81,6 +81,20 @@ impl Words {
         copy_front(&self.block, &mut block, self.len);
         self.block = block;
         Ok(())
+    }
+
+    /// The same words in a block of their own, which has no room for more.
+    pub fn copied(&self, alloc: Global) -> Result<Words, AllocError>
+        ensures words { IfOk result (λ made. made.words ≡ self.now.words) }
+        ensures spare { IfOk result (λ made. made.spare ≡ 0) }
+    {
+        let len = self.len;
+        if len == 0 {
+            return Ok(Words::new(alloc));
+        }
+        let mut block = Block::with_capacity(alloc, len)?;
+        copy_front(&self.block, &mut block, len);
+        Ok(Words { block, len })
     }
 
     /// Appends `word`. It takes no memory.

@@ -1,5 +1,5 @@
 -- What calls of a store keep: good marks, terms and names; and the state, where no table changes.
-use Rattle.std.proofs.Common.{◌≡◌, ◌≢◌, ℕ, zero, suc, ◌-◌, ◌/◌, ◌%◌, ◌==◌, ◌≤◌, ⊎_elim, min, Bool, true, false, List, [], ◌∷◌, ◌++◌, length, map, drop, slice_index, Some, refl, ap, sym, subst, ◌∙◌, arith}
+use Rattle.std.proofs.Common.{◌≡◌, ◌≢◌, ℕ, zero, suc, ◌-◌, ◌/◌, ◌%◌, ◌==◌, ◌≤◌, ⊎_elim, min, Bool, true, false, List, [], ◌∷◌, ◌++◌, length, map, drop, slice_index, Some, None, option_map, refl, ap, sym, subst, ◌∙◌, arith}
 use Rattle.std.proofs.lemmas.Bool.{leb-true, le-leb}
 use Rattle.std.proofs.lemmas.Bool.Decides.{nat_tests}
 use Rattle.std.proofs.lemmas.List.{map-append, length-map}
@@ -29,7 +29,7 @@ use Rattle.pi_store_blocks.specs.NameTable.{NameTable, names_of}
 use Rattle.pi_store.specs.Heads.{taken_in}
 use Rattle.pi_store.specs.declared.mark.RawMark.{RawMark}
 use Rattle.pi_store.specs.Waiting.{activation_of, IsWaitingIn}
-use Rattle.pi_store.specs.Holding.{unbound_at, variable_by, variable_in, agent_in, activation_in, waiting_in, heap_of, state_of, moment_of, view_of, order}
+use Rattle.pi_store.specs.Holding.{unbound_at, variable_by, variable_in, agent_in, activation_in, waiting_in, heap_of, state_of, words_of, moment_of, beside_in, view_of, order}
 use Rattle.pi_store.specs.Sound.{IsSound}
 use Rattle.pi_store.specs.Changed.{KeepsNames, IsNumbered}
 use Rattle.pi_store.specs.Added.{SameTables}
@@ -41,7 +41,7 @@ use Rattle.pi_store.proofs.AgentLemmas.{RefsHaveTrees, tree_stays, agents_stay}
 -- Moments
 
 over : Heap → Image → Moment
-over h i = record { state = state_of h i; terms = term_at h }
+over h i = record { state = state_of h i; terms = term_at h; words = words_of i }
 
 pub moment_kept : (t u : NameTable) (i : Image) (len : ℕ) → KeepsNames t u len → length i.region ≤ len → moment_of u i ≡ moment_of t i
 unfolding over
@@ -61,6 +61,7 @@ keeps_all t u i j keeps a = record {
       let le : m.length ≤ length i.region = leb-true m.length (length i.region) e in
       let l : length (at_length m.length i).region ≡ min m.length (length i.region) = len_back m.length i in
       ap (moment_of u) (before i j m.length a le) ∙ moment_kept t u (at_length m.length i) (length i.region) keeps (omega arith);
+  beside = λ m. refl;
   terms = λ r x e. trees_stay (heap_of t i) (heap_of u j) (heap_grows t u i j keeps a) r.number x e;
   names = λ k name e. keeps.texts k name e;
 }
@@ -202,13 +203,14 @@ gives_variable t i j r s is a term =
 
 -- Marks
 
-pub marks_now : (t : NameTable) (i : Image) (m : RawMark) → IsSound t i → m.length ≡ length i.region → Marks order (view_of t i) (view_of t i) m
-marks_now t i m s is =
+pub marks_now : (t : NameTable) (i : Image) (m : RawMark) → IsSound t i → m.length ≡ length i.region → m.beside ≡ None → Marks order (view_of t i) (view_of t i) m
+marks_now t i m s is nothing =
     let same : at_length m.length i ≡ i = ap (λ n. at_length n i) is ∙ now_is i s.right.trail in
     record {
       stays = stays_itself t i;
       good = le-leb m.length (length i.region) (omega arith);
       brings_back = ap (moment_of t) same;
+      nothing = ap (option_map (λ k. beside_in m.length k.value)) nothing;
       newest = λ n e. let le : n.length ≤ length i.region = leb-true n.length (length i.region) e in omega arith;
     }
 
@@ -217,6 +219,7 @@ returns_to t i j m is good =
     let l : length j.region ≡ min m.length (length i.region) = ap (λ (k : Image). length k.region) is ∙ len_back m.length i in
     record {
       now = ap (moment_of t) is;
+      beside = λ n. refl;
       good = λ n e older. let le : n.length ≤ length i.region = leb-true n.length (length i.region) e in let o : n.length ≤ m.length = older in le-leb n.length (length j.region) (omega arith);
       same = λ n e older. let o : n.length ≤ m.length = older in ap (λ k. moment_of t (at_length n.length k)) is ∙ ap (moment_of t) (two_parts n.length m.length i o);
       names = λ k name e. e;

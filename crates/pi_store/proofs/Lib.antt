@@ -25,3 +25,4 @@ pub mod RestorationLemmas
 pub mod PartLemmas
 pub mod WaitLemmas
 pub mod StandingLemmas
+pub mod BesideLemmas

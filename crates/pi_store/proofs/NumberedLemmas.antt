@@ -18,18 +18,23 @@ gains_keeps old new name g k x e = subst (λ (texts : Texts). slice_get texts k 
 pub numbered_so : (old new : NameTable) (i j : Image) (name : List ℕ) → Gains old.texts new.texts name → ((n k : ℕ) → names_of new n k ≡ names_of old n k) → HasDistinct new.texts → j ≡ i → IsNumbered old new i j name
 numbered_so old new i j name gains same distinct e = record {
   keeps = record { texts = gains_keeps old.texts new.texts name gains; same = λ n k _. same n k };
+  grow = record { texts = gains_keeps old.texts new.texts name gains; given = λ n k x e. same n k ∙ e };
   distinct = λ _. distinct;
   words = inl e;
 }
 
 pub numbered_by_word : (old mid new : NameTable) (i j : Image) (name : List ℕ) (len word : ℕ) → Gains old.texts mid.texts name → ((n k : ℕ) → names_of mid n k ≡ names_of old n k) → HasDistinct mid.texts
-    → new.texts ≡ mid.texts → ((n k : ℕ) → n < len → names_of new n k ≡ names_of mid n k) → len ≡ length j.region → word ≡ data_of 0 → j ≡ appended i (word ∷ []) → IsNumbered old new i j name
-numbered_by_word old mid new i j name len word gains same distinct texts earlier l w e =
+    → new.texts ≡ mid.texts → ((n k : ℕ) → n < len → names_of new n k ≡ names_of mid n k) → ((n k : ℕ) (x : List ℕ) → names_of mid n k ≡ Some x → names_of new n k ≡ Some x) → len ≡ length j.region → word ≡ data_of 0 → j ≡ appended i (word ∷ []) → IsNumbered old new i j name
+numbered_by_word old mid new i j name len word gains same distinct texts earlier stays l w e =
     let longer : length j.region ≡ length i.region + 1 = ap (λ (m : Image). length m.region) e ∙ length-append i.region (word ∷ []) in
     record {
       keeps = record {
         texts = λ k x at. ap (λ (all : Texts). slice_get all k) texts ∙ gains_keeps old.texts mid.texts name gains k x at;
         same = λ n k le. earlier n k (omega (arith, le, l, longer)) ∙ same n k;
+      };
+      grow = record {
+        texts = λ k x at. ap (λ (all : Texts). slice_get all k) texts ∙ gains_keeps old.texts mid.texts name gains k x at;
+        given = λ n k x at. stays n k x (same n k ∙ at);
       };
       distinct = λ _. subst HasDistinct (sym texts) distinct;
       words = inr (e ∙ ap (λ x. appended i (x ∷ [])) w);

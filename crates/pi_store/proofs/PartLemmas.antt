@@ -8,7 +8,7 @@ use Rattle.pi_store.specs.Holding.{view_of}
 
 -- what stays as it is
 pub stays_itself : (t : NameTable) (i : Image) → Stays (view_of t i) (view_of t i)
-stays_itself t i = record { keeps = record { good = λ m e. e; same = λ m e. refl; terms = λ r x e. e; names = λ k name e. e }; state = refl }
+stays_itself t i = record { keeps = record { good = λ m e. e; same = λ m e. refl; beside = λ m. refl; terms = λ r x e. e; names = λ k name e. e }; state = refl }
 
 -- a call that is refused leaves all as it was
 pub refused : {A E : Type 0} (r : Result A E) (t : NameTable) (i j : Image) → j ≡ i → OnErr r (Stays (view_of t i) (view_of t j))

@@ -1,9 +1,10 @@
 -- A return to a mark restores what the store held, whatever calls stood between.
-use Rattle.std.proofs.Common.{◌≡◌, ◌≤◌, min, length, refl, ap, ◌∙◌, arith}
+use Rattle.std.proofs.Common.{◌≡◌, ◌≤◌, min, length, None, refl, ap, ◌∙◌, arith}
 use Rattle.std.proofs.lemmas.Bool.{leb-true, le-leb}
 use Rattle.pi_constraints.specs.Store.{Moment, IsGood, Marks, Returns}
 use Rattle.pi_store.specs.declared.mark.RawMark.{RawMark}
-use Rattle.pi_store.specs.Holding.{Holding, seen, order}
+use Rattle.pi_store.specs.Held.{Holding}
+use Rattle.pi_store.specs.Holding.{seen, order}
 use Rattle.pi_store.specs.Restoration.{Follows, at_once, by_call, by_return, Restoration}
 
 -- behind a mark that was good, each mark that isn't newer is good, and brings back the same
@@ -29,7 +30,7 @@ kept m s u (by_return {t} k since good_k newer returns) =
 -- a mark that is made is as long as the region
 as_long : (m : RawMark) (s : Holding) → Marks order (seen s) (seen s) m → m.length ≡ length s.image.region
 as_long m s marks =
-    let n : RawMark = record { length = length s.image.region } in
+    let n : RawMark = record { length = length s.image.region; beside = None } in
     let good : IsGood (seen s) n = le-leb (length s.image.region) (length s.image.region) (omega arith) in
     let most : length s.image.region ≤ m.length = marks.newest n good in
     let least : m.length ≤ length s.image.region = leb-true m.length (length s.image.region) marks.good in

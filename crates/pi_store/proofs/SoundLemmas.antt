@@ -43,7 +43,7 @@ use Rattle.pi_store.specs.Walk.{bound_ref_by}
 use Rattle.pi_store.specs.Bindings.{HasBound}
 
 -- a word of what waits is one still when there is more
-waiting_stays : (h k : Heap) → Grows h k → (w : ℕ) → IsWaitingIn h w → IsWaitingIn k w
+pub waiting_stays : (h k : Heap) → Grows h k → (w : ℕ) → IsWaitingIn h w → IsWaitingIn k w
 waiting_stays h k grows zero is = tt
 waiting_stays h k grows (suc w) is = form_stays h k grows (form_of (suc w)) is
 

@@ -1,8 +1,8 @@
 -- What a store over raw words holds, and what the trait of stores sees of it.
-use Rattle.std.specs.Prelude.{ℕ, zero, suc, ◌-◌, ◌/◌, ◌%◌, ◌==◌, nat_le, Bool, true, false, List, [], length, map, drop, None, unwrap_or, pos}
+use Rattle.std.specs.Prelude.{ℕ, zero, suc, ◌-◌, ◌/◌, ◌%◌, ◌==◌, nat_le, Bool, true, false, List, [], ◌∷◌, length, map, drop, None, option_map, unwrap_or, pos}
 use Rattle.pi_terms.specs.Tree.{Tree, int}
 use Rattle.pi_constraints.specs.State.{Variable, free, within, bound, WatchTree, on_ins, on_bound, on_dom, on_dom_any, on_posted, Agent, State}
-use Rattle.pi_constraints.specs.Store.{Moment, StoreView}
+use Rattle.pi_constraints.specs.Store.{Moment, Beside, StoreView}
 use Rattle.pi_constraints.specs.declared.event.Watch.{Watch}
 use Rattle.pi_constraints.specs.declared.event.Activation.{Activation}
 use Rattle.pi_region.specs.Image.{Image}
@@ -16,12 +16,9 @@ use Rattle.pi_store.specs.Domains.{domain_at}
 use Rattle.pi_store.specs.Waiting.{activation_of}
 use Rattle.pi_store.specs.Heads.{taken_in}
 use Rattle.pi_store_blocks.specs.NameTable.{NameTable, names_of}
+use Rattle.pi_store.specs.Held.{Holding}
+use Rattle.pi_store.specs.declared.mark.KeptStore.{KeptStore}
 use Rattle.pi_store.specs.declared.mark.RawMark.{RawMark}
-
--- the names of atoms, and the words
-pub record Holding : Type 0 where
-  pub names : NameTable
-  pub image : Image
 
 -- what terms are read from
 abbrev pub heap_of : NameTable → Image → Heap
@@ -74,15 +71,29 @@ waiting_in h i = drop (taken_in i) (map (activation_in h) i.waiting)
 abbrev pub state_of : Heap → Image → State
 state_of h i = record { variables = map (variable_in h) i.variables; constraints = map (constraint_at h.words) i.constraints; agents = map (agent_in h) i.agents; waiting = waiting_in h i }
 
-abbrev pub moment_of : NameTable → Image → Moment
-moment_of t i = record { state = state_of (heap_of t i) i; terms = term_at (heap_of t i) }
+-- all words of which it consists
+abbrev pub words_of : Image → List (List ℕ)
+words_of i = i.region ∷ (i.trail ∷ []) ∷ i.variables ∷ i.constraints ∷ i.agents ∷ i.waiting ∷ i.heads ∷ []
 
--- A mark is the length that the region had
+abbrev pub moment_of : NameTable → Image → Moment
+moment_of t i = record { state = state_of (heap_of t i) i; terms = term_at (heap_of t i); words = words_of i }
+
+-- what a copy of a store keeps beside a mark of this length
+abbrev pub beside_in : ℕ → KeptStore → Beside
+beside_in len k = record {
+  from = words_of (at_length len k.store.image);
+  state = state_of (heap_of k.store.names k.store.image) k.store.image;
+  names = k.store.names.texts;
+  number = k.number;
+}
+
+-- A mark is the length that the region had, and may have a copy of a later store beside
 abbrev pub view_of : NameTable → Image → StoreView RawMark
 view_of t i = record {
   now = moment_of t i;
   at_mark = λ m. moment_of t (at_length m.length i);
   is_good = λ m. nat_le m.length (length i.region);
+  beside = λ m. option_map (λ k. beside_in m.length k.value) m.beside;
   names = t.texts;
 }
 

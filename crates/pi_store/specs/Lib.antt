@@ -5,6 +5,7 @@ pub mod Posted
 pub mod Domains
 pub mod Since
 pub mod Waiting
+pub mod Held
 pub mod Holding
 pub mod Bindings
 pub mod Sound

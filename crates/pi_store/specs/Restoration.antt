@@ -1,7 +1,8 @@
 -- What a return to a mark restores, whatever calls stood between.
 use Rattle.std.specs.Prelude.{◌≡◌, ◌≤◌, length, min}
 use Rattle.pi_constraints.specs.Store.{IsGood, Keeps, Marks, Returns}
-use Rattle.pi_store.specs.Holding.{Holding, seen, order}
+use Rattle.pi_store.specs.Held.{Holding}
+use Rattle.pi_store.specs.Holding.{seen, order}
 use Rattle.pi_store.specs.declared.mark.RawMark.{RawMark}
 
 -- what came of a store behind a mark: by calls, each of which keeps what good marks bring back, and by returns to marks that

@@ -4,6 +4,7 @@
 mod bind;
 mod domains;
 mod heads;
+mod kept_states;
 pub mod laws;
 mod lists;
 mod mark;
@@ -19,5 +20,5 @@ mod stored;
 mod waiting;
 mod walk;
 
-pub use mark::RawMark;
+pub use mark::{KeptStore, RawMark};
 pub use store::RawStore;

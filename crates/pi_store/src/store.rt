@@ -10,6 +10,7 @@ ghost use Rattle.pi_constraints.specs.Stored.{stored};
 ghost use Rattle.pi_constraints.specs.Domain.{IsDomain};
 ghost use Rattle.pi_store.specs.Holding.{seen, order};
 
+mod beside;
 mod waiting;
 
 use crate::bind::bind_variable;
@@ -46,7 +47,7 @@ pub struct RawStore {
 }
 
 impl Model for RawStore {
-    ghost use Rattle.pi_store.specs.Holding.{Holding};
+    ghost use Rattle.pi_store.specs.Held.{Holding};
 
     ghost Value = { Holding };
 
@@ -356,6 +357,7 @@ impl RawStore {
     {
         RawMark {
             length: self.words.len(),
+            beside: None,
         }
     }
 

@@ -213,12 +213,13 @@ puts_node v w head name count old new made shows counts puts = record {
 -- One node after another
 
 pub keeps_itself : {M : Type 0} (v : StoreView M) → Keeps v v
-keeps_itself v = record { good = λ m h. h; same = λ m h. refl; terms = λ r x h. h; names = λ n name h. h }
+keeps_itself v = record { good = λ m h. h; same = λ m h. refl; beside = λ m. refl; terms = λ r x h. h; names = λ n name h. h }
 
 pub keeps_then : {M : Type 0} (v w x : StoreView M) → Keeps v w → Keeps w x → Keeps v x
 keeps_then v w x a b = record {
   good = λ m h. b.good m (a.good m h);
   same = λ m h. b.same m (a.good m h) ∙ a.same m h;
+  beside = λ m. b.beside m ∙ a.beside m;
   terms = λ r t h. b.terms r t (a.terms r t h);
   names = λ k name h. b.names k name (a.names k name h);
 }

@@ -44,6 +44,26 @@ impl RawNames {
         }
     }
 
+    /// The same names with the same numbers, which terms may have from the same lengths on, apart.
+    pub fn copied(&self, alloc: Global) -> Result<RawNames, AllocError>
+        ensures { IfOk result (λ made. made ≡ self.now) }
+    {
+        let atoms = self.atoms.copied()?;
+        let mut from = WordList::new(alloc);
+        from.append_from(&self.from, 0)?;
+        Ok(RawNames { atoms, from })
+    }
+
+    /// Whether each number of the other ones has the same name here, and terms may have here what they may have there.
+    /// It takes no memory.
+    pub fn has_all(&self, other: &RawNames) -> bool
+        ensures texts { IsTrue result → (k : ℕ) (name : List ℕ) → slice_get other.now.texts k ≡ Some name → slice_get self.now.texts k ≡ Some name }
+        ensures given { IsTrue result → (n k : ℕ) (name : List ℕ) → names_of other.now n k ≡ Some name → names_of self.now n k ≡ Some name }
+        ensures distinct { HasDistinct self.now.texts }
+    {
+        self.atoms.has_all(&other.atoms) && are_sooner(&self.from, &other.from)
+    }
+
     /// The number of a name, which is a new one at its first use and in no term yet.
     pub fn number(&mut self, alloc: Global, name: &str) -> Result<u32, AllocError>
         ensures ok { IfOk result (λ k. slice_get self.new.texts k ≡ Some name.now) }
@@ -123,6 +143,25 @@ fn is_from(word: u64, len: usize) -> bool
     ensures { result ≡ is_from word len }
 {
     0 < word && word - 1 <= len as u64
+}
+
+/// Whether a word says that terms may have a name where the other one says so.
+fn is_sooner(word: u64, other: u64) -> bool
+    ensures { IsTrue result → (len : ℕ) → is_from other len ≡ true → is_from word len ≡ true }
+{
+    other == 0 || 0 < word && word <= other
+}
+
+/// Whether each word says that terms may have a name where the other list's does. It takes no memory.
+fn are_sooner(words: &WordList, others: &WordList) -> bool
+    ensures { IsTrue result → (len k : ℕ) → is_from (slice_index others.now k) len ≡ true → is_from (slice_index words.now k) len ≡ true }
+{
+    for k in 0..others.len() {
+        if !is_sooner(words.get(k), others.get(k)) {
+            return false;
+        }
+    }
+    true
 }
 
 /// The number of the name behind the first one that stands at this place.

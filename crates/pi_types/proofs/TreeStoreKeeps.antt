@@ -52,17 +52,19 @@ keeps_change : (names : Names) (e : List TreeState) (p q : TreeState) (k : Bool)
 keeps_change names e p q k h = record {
   good = λ m g. good_kept e p k m g;
   same = λ m g. ap (λ s. moment names s) (at_kept e p q k m g);
+  beside = λ m. refl;
   terms = λ r t i. h r.number t i;
   names = λ j name i. i;
 }
 
 pub keeps_same : {M : Type 0} (v : StoreView M) → Keeps v v
-keeps_same v = record { good = λ m g. g; same = λ m g. refl; terms = λ r t i. i; names = λ j name i. i }
+keeps_same v = record { good = λ m g. g; same = λ m g. refl; beside = λ m. refl; terms = λ r t i. i; names = λ j name i. i }
 
 pub keeps_then : {M : Type 0} (u v w : StoreView M) → Keeps u v → Keeps v w → Keeps u w
 keeps_then u v w a b = record {
   good = λ m g. b.good m (a.good m g);
   same = λ m g. b.same m (a.good m g) ∙ a.same m g;
+  beside = λ m. b.beside m ∙ a.beside m;
   terms = λ r t i. b.terms r t (a.terms r t i);
   names = λ j name i. b.names j name (a.names j name i);
 }
@@ -109,6 +111,7 @@ stays_names names more now e p k f h =
       keeps = record {
         good = λ m g. g;
         same = λ m g. moment_names names more (slice_index_or e m p) (sound_at names e p m h);
+        beside = λ m. refl;
         terms = λ r t i. ap (λ trees. slice_get trees r.number) (trees_names names more p h.present_is) ∙ i;
         names = λ j name i. get_append_left names more j name i;
       };

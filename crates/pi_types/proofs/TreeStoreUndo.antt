@@ -73,6 +73,7 @@ returns_to names e g p kept k m h q =
     let P : List TreeState → Type 0 = λ w. Returns (λ n. n) (store_view names e p k) (store_view names w kept true) m in
     subst P (sym q.left) (record {
       now = ap (λ s. moment names s) (last e p kept m q.kept);
+      beside = λ n. refl;
       good = λ n i l. let b : n ≤ m = l in let w : length (take m e) ≡ m = length_take e m h in below_to n (length (take m e) + 1) (omega arith);
       same = λ n i l. ap (λ s. moment names s) (at_front e p kept m n q.kept l);
       names = λ j name i. i;

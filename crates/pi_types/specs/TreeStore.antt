@@ -1,5 +1,5 @@
 -- What a store of whole states holds: the trees of a state's terms, the state that the trait speaks of, and the marks.
-use Rattle.std.specs.Prelude.{ℕ, ◌+◌, Bool, nat_lt, pos, List, [], ◌∷◌, ◌++◌, length, map, slice_get, slice_index_or, if◌then◌else◌}
+use Rattle.std.specs.Prelude.{ℕ, ◌+◌, Bool, nat_lt, pos, None, List, [], ◌∷◌, ◌++◌, length, map, slice_get, slice_index_or, if◌then◌else◌}
 use Rattle.pi_terms.specs.Tree.{Tree, var, int, atom, comp, Trees, no_trees, tree}
 use Rattle.pi_constraints.specs.State.{State, Variable, free, within, bound, Agent, WatchTree, on_ins, on_bound, on_dom, on_dom_any, on_posted}
 use Rattle.pi_constraints.specs.Store.{Moment, StoreView}
@@ -63,7 +63,7 @@ abbrev pub state_of : List Tree → TreeState → State
 state_of trees s = record { variables = map (variable_of trees) s.variables; constraints = s.constraints; agents = map (agent_of trees) s.agents; waiting = s.waiting }
 
 abbrev pub moment_over : List Tree → TreeState → Moment
-moment_over trees s = record { state = state_of trees s; terms = λ k. slice_get trees k }
+moment_over trees s = record { state = state_of trees s; terms = λ k. slice_get trees k; words = [] }
 
 abbrev pub moment : List (List ℕ) → TreeState → Moment
 moment names s = moment_over (trees_of names s) s
@@ -78,5 +78,6 @@ store_view names earlier present is_kept = record {
   now = moment names present;
   at_mark = λ m. moment names (slice_index_or earlier m present);
   is_good = λ m. nat_lt m (kept_count earlier is_kept);
+  beside = λ m. None;
   names = names;
 }

@@ -7,12 +7,13 @@ use Rattle.pi_constraints.specs.declared.store.Ref.{Ref}
 use Rattle.pi_unify.specs.Copying.{with_variables, Makes, MakesSome}
 
 pub keeps_none : {M : Type 0} (v : StoreView M) → Keeps v v
-keeps_none v = record { good = λ m h. h; same = λ m h. refl; terms = λ r t h. h; names = λ k name h. h }
+keeps_none v = record { good = λ m h. h; same = λ m h. refl; beside = λ m. refl; terms = λ r t h. h; names = λ k name h. h }
 
 pub keeps_then : {M : Type 0} (v w x : StoreView M) → Keeps v w → Keeps w x → Keeps v x
 keeps_then v w x a b = record {
   good = λ m h. b.good m (a.good m h);
   same = λ m h. b.same m (a.good m h) ∙ a.same m h;
+  beside = λ m. b.beside m ∙ a.beside m;
   terms = λ r t h. b.terms r t (a.terms r t h);
   names = λ k name h. b.names k name (a.names k name h);
 }

@@ -214,4 +214,4 @@ unifying_done v w x a b c d fs gs t u one left right so step =
     subst (λ (r : Option State). Answers r one x.now.state) (sym (terms ∙ so.same)) step
 
 pub keeps-refl : {M : Type 0} (v : StoreView M) → Keeps v v
-keeps-refl v = record { good = λ m h. h; same = λ m h. refl; terms = λ r t h. h; names = λ k name h. h }
+keeps-refl v = record { good = λ m h. h; same = λ m h. refl; beside = λ m. refl; terms = λ r t h. h; names = λ k name h. h }

@@ -16,7 +16,7 @@ returns-in_err-append-clause-moved c = numbered_so _ _ _ _ _ c.number.ensures.gr
 
 pub returns-clause-moved : goal.returns-clause-moved
 returns-clause-moved c =
-    numbered_by_word _ c.number.new.self _ _ _ _ _ _ c.number.ensures.grows c.number.ensures.same c.number.ensures.distinct c.give.ensures.texts c.give.ensures.earlier c.len-2.ensures.len c.data.ensures
+    numbered_by_word _ c.number.new.self _ _ _ _ _ _ c.number.ensures.grows c.number.ensures.same c.number.ensures.distinct c.give.ensures.texts c.give.ensures.earlier c.give.ensures.stays c.len-2.ensures.len c.data.ensures
     c.in_ok-append.ensures.ok
 
 pub returns-clause-ok : goal.returns-clause-ok
