@@ -1,4 +1,5 @@
 pub mod PostLemmas
+pub mod ExpressionLemmas
 pub mod GoalLemmas
 pub mod KeepLemmas
 pub mod LeafLemmas

@@ -24,7 +24,7 @@ use Rattle.pi_constraints.proofs.FollowLemmas.{followed_itself, followed_unbound
 use Rattle.pi_constraints.proofs.StateLemmas.{variable, held_is, domain_good, bound_below}
 use Rattle.pi_prop_spec.specs.Places.{places_of, sum_places}
 use Rattle.pi_settling.specs.Confined.{with_default, confined_at, confined}
-use Rattle.pi_settling.specs.Posted.{with_constraints, places_of_all, posted_in, effect_of_posting, posting_goal}
+use Rattle.pi_settling.specs.Posted.{with_constraints, places_of_all, posted_in, effect_of_posting}
 use Rattle.pi_settling.specs.Roots.{item_of, root_item, all_values}
 use Rattle.pi_settling.proofs.TwiceLemmas.{all-domain}
 use Rattle.pi_settling.proofs.CalmFollowed.{with-variables}
@@ -35,6 +35,9 @@ use Rattle.pi_terms.proofs.VariableLemmas.{only_its_variables_count, instance-va
 use Rattle.pi_constraints.proofs.KeepsLemmas.{news-next, news-keep}
 use Rattle.pi_constraints.proofs.StateLawLemmas.{constraint-keeps-a-state}
 use Rattle.pi_constraints.proofs.ValueLemmas.{occurs_in_instance, value_goes_by_variables, unbound_is_its_own_value, value_has_none_bound}
+use Rattle.pi_effects.specs.Balls.{IsBall}
+use Rattle.pi_effects.specs.declared.fault.Fault.{Fault}
+use Rattle.pi_effects.specs.declared.fault.Stop.{Stop}
 use Rattle.pi_effects.specs.Effect.{Succeeds}
 use Rattle.pi_effects.specs.Exception.{raised_of, exception_with}
 use Rattle.pi_prop_made.specs.declared.posting.Posting.{Posting}
@@ -42,16 +45,16 @@ use Rattle.pi_prop_made.specs.Finished.{posting_as}
 use Rattle.pi_prop_read.specs.declared.called.PostingGoal.{PostingGoal}
 use Rattle.pi_prop_read.specs.declared.called.PostingStop.{PostingStop}
 use Rattle.pi_prop_read.specs.Called.{goal_as, ShowsCalled}
-use Rattle.pi_prop_read.specs.Refs.{tree_of, value_at}
-use Rattle.pi_prop_spec.specs.Steps.{Refusal}
+use Rattle.pi_prop_read.specs.Refs.{tree_of, IsThere, value_at}
+use Rattle.pi_prop_spec.specs.Steps.{Refusal, not_a_constraint, too_many_terms, wide_coefficient}
 use Rattle.pi_prop_spec.specs.Terms.{goal_of}
-use Rattle.pi_prop_spec.specs.Postings.{Posting as PostingOf, posting_of, posting_in}
+use Rattle.pi_prop_spec.specs.Postings.{Posting as PostingOf, posting_of, posting_in, raised_by}
 use Rattle.pi_prop_spec.proofs.PostingLemmas.{postings_may_be_posted}
 use Rattle.pi_unify.proofs.KeepsLemmas.{keeps_none}
 use Rattle.pi_lib.specs.Outcomes.{ShowsOutcome}
 use Rattle.pi_lib.specs.declared.predicates.Outcome.{Outcome}
 use Rattle.pi_lib_constraints.specs.Kept.{item_term}
-use Rattle.pi_lib_constraints.specs.Posts.{fault_of, MayPostAll}
+use Rattle.pi_lib_constraints.specs.Posts.{fault_of, MayPostAll, ShowsPosted}
 
 pub stays_none : {M : Type 0} (v : StoreView M) → Stays v v
 stays_none v = record { keeps = keeps_none v; state = refl }
@@ -333,7 +336,7 @@ rounds-below (suc k) b n t all below =
     rounds-below k b n (replaced_once b t) all
     (λ m occurs. let from = occurs_in_instance (λ j. unwrap_or (held b j) (var j)) t m occurs in once-below b n from.0 m (held b from.0) all refl (below from.0 from.1) from.2)
 
-value-below : (s : State) (t : Tree) → IsState s → SpeaksBelow (next s) t → SpeaksBelow (next s) (value (bindings s) t)
+pub value-below : (s : State) (t : Tree) → IsState s → SpeaksBelow (next s) t → SpeaksBelow (next s) (value (bindings s) t)
 unfolding value
 value-below s t is below = rounds-below (length (bindings s)) (bindings s) (next s) t (λ m u held. bound_below s m u is held) below
 
@@ -358,25 +361,35 @@ posting-same : {M : Type 0} (v : StoreView M) (goal : PostingGoal) (t : Tree) (o
 posting-same v goal t o h e = ap (posting_of (next v.now.state)) h.same ∙ e
 
 pub posted-shown : {M : Type 0} (v w : StoreView M) (goal : PostingGoal) (t : Tree) (p : Posting) → Posts v goal t → posting_of (next v.now.state) (goal_as v.now goal) ≡ Ok (posting_as p) →
-    (MayPostAll (next v.now.state + p.fresh) p.list → w.now.state ≡ posted_in v.now.state (posting_as p)) → ShowsOutcome v w (Ok Outcome.Yes) (posting_goal v.now.state t)
+    (MayPostAll (next v.now.state + p.fresh) p.list → w.now.state ≡ posted_in v.now.state (posting_as p)) → ShowsPosted v w (Ok tt) (posting_in v.now.state t)
 posted-shown v w goal t p h e puts =
     let s : State = v.now.state in
     let whole : posting_in s t ≡ Ok (posting_as p) = posting-same v goal t (Ok (posting_as p)) h e in
-    ap (effect_of_posting s) whole ∙ ap Succeeds (sym (puts (postings_may_be_posted (next s) (value (bindings s) t) (posting_as p) (value-below s t h.state h.below) whole)))
+    (posting_as p, whole, puts (postings_may_be_posted (next s) (value (bindings s) t) (posting_as p) (value-below s t h.state h.below) whole))
+
+-- a wrong term is told by its Ref
+pub wrong-told : {M : Type 0} (v : StoreView M) (r : Ref) → IsState v.now.state → IsThere v.now r → IsBall v (Fault.NotAConstraint r) (raised_by v.now.state (not_a_constraint (value_at v.now r)))
+wrong-told v r is there =
+    let s : State = v.now.state in (
+      tree_of v.now r,
+      there,
+      same-exception (codes "not_a_constraint") s (value_at v.now r) (tree_of v.now r) (value-twice (bindings s) (tree_of v.now r) is.acyclic),
+    )
 
 pub fault-shown : {M : Type 0} (v : StoreView M) (goal : PostingGoal) (t : Tree) (stop : PostingStop) → Posts v goal t → ShowsCalled v.now (Err stop) (posting_of (next v.now.state) (goal_as v.now goal)) →
-    ShowsOutcome v v (Err (fault_of stop)) (posting_goal v.now.state t)
-fault-shown v goal t (PostingStop.NotAConstraint r) h (there, e) =
-    let s : State = v.now.state in
-    let name = codes "not_a_constraint" in (
-      exception_with name (value_at v.now r) s,
-      ap (effect_of_posting s) (posting-same v goal t _ h e),
-      (tree_of v.now r, there, same-exception name s (value_at v.now r) (tree_of v.now r) (value-twice (bindings s) (tree_of v.now r) h.state.acyclic)),
-      stays_none v,
-    )
-fault-shown v goal t PostingStop.TooManyTerms h e = (atom (codes "constraint_too_large"), ap (effect_of_posting v.now.state) (posting-same v goal t _ h e), refl, stays_none v)
-fault-shown v goal t PostingStop.WideCoefficient h e = (atom (codes "constraint_too_large"), ap (effect_of_posting v.now.state) (posting-same v goal t _ h e), refl, stays_none v)
+    ShowsPosted v v (Err (fault_of stop)) (posting_in v.now.state t)
+fault-shown v goal t (PostingStop.NotAConstraint r) h (there, e) = (not_a_constraint (value_at v.now r), posting-same v goal t _ h e, wrong-told v r h.state there, stays_none v)
+fault-shown v goal t PostingStop.TooManyTerms h e = (too_many_terms, posting-same v goal t _ h e, refl, stays_none v)
+fault-shown v goal t PostingStop.WideCoefficient h e = (wide_coefficient, posting-same v goal t _ h e, refl, stays_none v)
 fault-shown v goal t PostingStop.Memory h e = tt
+
+-- as the outcome of a call
+pub posted-outcome : {M : Type 0} (v w : StoreView M) (o : Result PostingOf Refusal) → ShowsPosted v w (Ok tt) o → ShowsOutcome v w (Ok Outcome.Yes) (effect_of_posting v.now.state o)
+posted-outcome v w o (p, e, is) = ap (effect_of_posting v.now.state) e ∙ ap Succeeds (sym is)
+
+pub refused-outcome : {M : Type 0} (v w : StoreView M) (stop : Stop) (o : Result PostingOf Refusal) → ShowsPosted v w (Err stop) o → ShowsOutcome v w (Err stop) (effect_of_posting v.now.state o)
+refused-outcome v w (Stop.Raised fault) o (r, e, ball, stays) = (raised_by v.now.state r, ap (effect_of_posting v.now.state) e, ball, stays)
+refused-outcome v w Stop.Memory o h = tt
 
 -- the same where the constraints are lent
 pub posting-put-at : (s a b d : State) (p : PostingOf) (ds es : List Constraint) → ds ≡ p.list → es ≡ p.list → IsState s → MayPostAll (next s + p.fresh) p.list → a ≡ with_new_variables p.fresh s → (MayPostAll (next a) ds → b ≡ with_constraints ds a) →

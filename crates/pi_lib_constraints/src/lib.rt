@@ -2,6 +2,7 @@
 #![tactic(auto)]
 
 mod defaults;
+mod expressions;
 mod flattening;
 mod functions;
 mod goals;
@@ -16,6 +17,7 @@ mod values;
 mod within;
 
 pub use defaults::default_domain;
+pub use expressions::{number_of, post_operand, post_relation};
 pub use flattening::leaves;
 pub use functions::{DomainFunction, call_domain_function};
 pub use goals::call_constraint;

@@ -10,13 +10,14 @@ ghost use Rattle.pi_constraints.specs.Store.{IsTerm, Keeps};
 ghost use Rattle.pi_constraints.specs.Value.{value};
 ghost use Rattle.pi_prop_made.specs.Finished.{posting_as};
 ghost use Rattle.pi_prop_read.specs.Called.{goal_as, HasParts};
+ghost use Rattle.pi_prop_spec.specs.Postings.{posting_in};
 ghost use Rattle.pi_prop_spec.specs.Terms.{goal_of};
 ghost use Rattle.pi_settling.specs.Confined.{confined, confined_at};
 ghost use Rattle.pi_settling.specs.Posted.{posting_goal, posted_in, with_constraints, places_of_all};
 ghost use Rattle.pi_settling.specs.Roots.{root_item, all_values};
 ghost use Rattle.pi_lib.specs.Outcomes.{ShowsOutcome};
 ghost use Rattle.pi_lib_constraints.specs.Kept.{item_term};
-ghost use Rattle.pi_lib_constraints.specs.Posts.{fault_of, MayPostAll};
+ghost use Rattle.pi_lib_constraints.specs.Posts.{fault_of, MayPostAll, ShowsPosted};
 
 use crate::defaults::default_domain;
 use pi_constraints::{Cell, Constraint, Domain, Item, Ref, StateStore, StoredDomains};
@@ -40,17 +41,35 @@ pub(crate) fn post<S: StoredDomains>(
         goal_of (value (bindings (S.seen s.old).now.state) t) ≡ goal_as (S.seen s.old).now goal →
         ShowsOutcome (S.seen s.old) (S.seen s.new) result (posting_goal (S.seen s.old).now.state t) }
 {
+    match post_goal(alloc, s, goal) {
+        Ok(()) => Ok(Outcome::Yes),
+        Err(stop) => Err(stop),
+    }
+}
+
+/// The same, where it is asked just whether something was posted.
+pub(crate) fn post_goal<S: StoredDomains>(
+    alloc: Global,
+    s: &mut S,
+    goal: PostingGoal,
+) -> Result<(), Stop>
+    ensures keeps { Keeps (S.seen s.old) (S.seen s.new) }
+    ensures shows { (t : Tree) → IsState (S.seen s.old).now.state → HasParts (S.seen s.old).now goal →
+        SpeaksBelow (next (S.seen s.old).now.state) t →
+        goal_of (value (bindings (S.seen s.old).now.state) t) ≡ goal_as (S.seen s.old).now goal →
+        ShowsPosted (S.seen s.old) (S.seen s.new) result (posting_in (S.seen s.old).now.state t) }
+{
     match read_posting(alloc, s, goal) {
         Ok(posting) => {
             put_posting(alloc, s, &posting)?;
-            Ok(Outcome::Yes)
+            Ok(())
         }
         Err(stop) => Err(fault_of(stop)),
     }
 }
 
 /// What is raised where a goal has no posting.
-fn fault_of(stop: PostingStop) -> Stop
+pub(crate) fn fault_of(stop: PostingStop) -> Stop
     ensures { result ≡ fault_of stop }
 {
     match stop {
@@ -62,7 +81,7 @@ fn fault_of(stop: PostingStop) -> Stop
 }
 
 /// Makes the new variables of a posting, posts its constraints, and confines their variables.
-fn put_posting<S: StoredDomains>(
+pub(crate) fn put_posting<S: StoredDomains>(
     alloc: Global,
     s: &mut S,
     posting: &Posting,

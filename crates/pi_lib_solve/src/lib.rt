@@ -7,6 +7,7 @@ mod confining;
 mod narrowing;
 mod picking;
 mod places;
+mod seeking;
 mod trying;
 mod values;
 
@@ -14,4 +15,5 @@ pub use asking::{Asked, ask};
 pub use confining::confine;
 pub use narrowing::narrow;
 pub use picking::pick;
+pub use seeking::{begin, better, count_better, plain_words, worth};
 pub use trying::next_choice;

@@ -10,4 +10,5 @@ pub mod GoalNodes
 pub mod Items
 pub mod Goals
 pub mod Called
+pub mod Expressions
 pub mod Faults

@@ -69,7 +69,7 @@ pub fn read_posting<S: StateStore>(
 }
 
 /// What stops a reading stops the posting.
-fn posting_stop(stop: OperandStop) -> PostingStop
+pub(crate) fn posting_stop(stop: OperandStop) -> PostingStop
     ensures { result ≡ posting_stop stop }
 {
     match stop {

@@ -2,6 +2,7 @@
 #![tactic(auto)]
 
 mod called;
+mod expressions;
 mod goals;
 mod items;
 mod nodes;
@@ -11,6 +12,7 @@ mod relations;
 mod truths;
 
 pub use called::{PostingGoal, PostingStop, read_posting};
+pub use expressions::{Expression, read_expression};
 pub use reading::{ConFault, read_constraint};
 pub use relations::Comparison;
 pub use truths::Connective;

@@ -1,4 +1,4 @@
--- What a goal that posts constraints leaves may settle: each of their items is an integer that a domain can have, or a variable that isn't bound and has a domain then.
+-- What a goal that posts constraints leaves may settle, and so may what an operand by itself posts: each of their items is an integer that a domain can have, or a variable that isn't bound and has a domain then.
 use Rattle.std.specs.Prelude.{◌≡◌, ℕ, zero, suc, ◌+◌, ◌-◌, ◌<◌, ◌≤◌, ℤ, neg_ℤ, List, [], ◌∷◌, ◌++◌, length, map, get_or, Option, Some, None, unwrap_or, Contains, Result, Ok, Err, refl}
 use Rattle.std.proofs.Common.{arith, sym, ◌∙◌, ap, subst, inl, inr, append_assoc, append-nil}
 use Rattle.std.proofs.lemmas.List.Elements.{Contains-append_left, Contains-append_right, Contains-append_cases}
@@ -21,16 +21,24 @@ use Rattle.pi_constraints.proofs.StateLemmas.{variable, held_is, bound_below}
 use Rattle.pi_constraints.proofs.StateLawLemmas.{constraint-keeps-a-state}
 use Rattle.pi_effects.specs.Effect.{Succeeds}
 use Rattle.pi_prop_spec.specs.Places.{sum_places, places_of}
-use Rattle.pi_prop_spec.specs.Steps.{Refusal, Known}
+use Rattle.pi_prop_spec.specs.PostingSums.{Sum}
+use Rattle.pi_prop_spec.specs.Steps.{Refusal, Known, read_operand}
 use Rattle.pi_prop_spec.specs.Operands.{Goal}
-use Rattle.pi_prop_spec.specs.Terms.{goal_of}
+use Rattle.pi_prop_spec.specs.Terms.{operand_of, goal_of}
 use Rattle.pi_prop_spec.specs.Limits.{first_refusal}
 use Rattle.pi_prop_spec.specs.Postings.{Posting, read_goal, nothing_made, posting_unless, finished, posting_of, posting_in}
+use Rattle.pi_prop_spec.proofs.GrowLemmas.{AreFormed}
+use Rattle.pi_prop_spec.proofs.LimitLemmas.{all_kept}
+use Rattle.pi_prop_spec.proofs.OperandLemmas.{SumRead, operand-read}
 use Rattle.pi_prop_spec.proofs.PostingLemmas.{postings_may_be_posted}
+use Rattle.pi_prop_spec.proofs.TermLemmas.{operand-below}
+use Rattle.pi_prop_spec.specs.Says.{operand_value}
 use Rattle.pi_settling.specs.Roots.{root_item, all_values}
 use Rattle.pi_settling.specs.SettlingLaws.{MaySettle}
 use Rattle.pi_settling.specs.Confined.{with_default, confined_at, confined}
 use Rattle.pi_settling.specs.Posted.{with_constraints, places_of_all, posted_in, effect_of_posting}
+use Rattle.pi_settling.specs.Reading.{Sum as ReadSum, reads}
+use Rattle.pi_settling.specs.Read.{operand_as, operand_in}
 use Rattle.pi_settling.specs.CalmLaws.{MaySettleAfter, FollowedStay, ConfinedMaySettle, PostedMaySettle, PostedKeepsFollowed}
 use Rattle.pi_settling.proofs.TwiceLemmas.{past_free, all-domain, unbound-root}
 use Rattle.pi_settling.proofs.KeepLemmas.{MayCome}
@@ -39,7 +47,7 @@ use Rattle.pi_settling.proofs.CalmItems.{like-comes, news-like}
 use Rattle.pi_settling.proofs.CalmFollowed.{stay-then, new_variables_keep_followed, news-held, with-variables, constraints_keep_followed, confined_keeps_followed}
 use Rattle.pi_settling.proofs.CalmGoals.{left_with, fixed-keeps-state}
 use Rattle.pi_settling.proofs.CalmReads.{ItemOnly, PlacesOnly, Each, each-append, AllOnly}
-use Rattle.pi_settling.proofs.CalmTerms.{TermOnly, goal-reads}
+use Rattle.pi_settling.proofs.CalmTerms.{TermOnly, operand-reads, goal-reads}
 
 -- ---- the values of terms
 
@@ -324,3 +332,45 @@ posted_keeps_followed s r t same =
     subst (FollowedStay s) made.2
     (stay-then s (with_new_variables p.fresh s) (posted_in s p) (new_variables_keep_followed p.fresh s)
     (stay-then (with_new_variables p.fresh s) (before_domains s p) (posted_in s p) (constraints_keep_followed (with_new_variables p.fresh s) p.list) (confined_keeps_followed (before_domains s p) (places_of_all p.list))))
+
+-- ---- an operand by itself
+
+-- what a state is that a posting left
+abbrev pub IsLeft : State → State → Type 0
+IsLeft s r = (p : Posting) × (posted_in s p ≡ r) × MaySettleAfter s r
+
+module _ (s : State) (is : IsState s) (may : MaySettle s) (t : Tree) (below : SpeaksBelow (next s) t) where
+  -- it is read to this
+  abbrev IsRead : Known Sum → Type 0
+  IsRead k = read_operand (operand_of (value (bindings s) t)) (nothing_made (next s)) ≡ Ok k
+
+  abbrev made : Known Sum → Posting
+  made k = record { fresh = k.made.unused - next s; list = k.made.constraints }
+
+  operand-sum : (k : Known Sum) → IsRead k → SumRead (nothing_made (next s)) k (λ a. operand_value a (operand_of (value (bindings s) t)))
+  operand-sum k e = operand-read (next s) (operand_of (value (bindings s) t)) (nothing_made (next s)) k (operand-below (next s) (value (bindings s) t) (value-below s t is below)) (omega arith) e
+
+  operand-may : (k : Known Sum) → IsRead k → first_refusal k.made.constraints ≡ None → (c : Constraint) → Contains k.made.constraints c → IsWithinLimits c × ((m : ℕ) → SpeaksOf c m → m < next s + (k.made.unused - next s))
+  unfolding AreFormed
+  operand-may k e kept c at =
+      let r = operand-sum k e in
+      let here = all_kept k.made.unused k.made.constraints c (r.grows.formed tt) kept at in
+      (here.0, λ m o. let l : m < k.made.unused = here.1 m o in let more : next s ≤ k.made.unused = r.grows.more in omega (arith, l, more))
+
+  operand-free : (k : Known Sum) → IsRead k → AllOnly (IsFree s) k.made.constraints
+  unfolding AllOnly
+  operand-free k e =
+      ((operand-reads (IsFree s) (value (bindings s) t) (λ m o. value_has_none_bound (bindings s) t m is.acyclic o)).each (nothing_made (next s)) k (tt, λ m past. held_is s m ∙ ap binding (past_free s m past)) e).0.0
+
+  operand-left : (k : Known Sum) → IsRead k → (o : Option Refusal) → first_refusal k.made.constraints ≡ o → (r : State) (sum : ReadSum) → operand_as s (Ok k) (posting_unless o (next s) k.made) ≡ reads r sum → IsLeft s r
+  operand-left k e (Some x) kept r sum same = absurd cc
+  operand-left k e None kept r sum same =
+      let here : posted_in s (made k) ≡ r = cc in
+      (made k, here, subst (MaySettleAfter s) here (posted-after s (made k) (record { state = is; settles = may; may = operand-may k e kept; none = operand-free k e })))
+
+  operand-by : (r : State) (sum : ReadSum) (o : Result (Known Sum) Refusal) → read_operand (operand_of (value (bindings s) t)) (nothing_made (next s)) ≡ o → operand_as s o (finished (next s) o) ≡ reads r sum → IsLeft s r
+  operand-by r sum (Err x) e same = absurd cc
+  operand-by r sum (Ok k) e same = operand-left k e (first_refusal k.made.constraints) refl r sum same
+
+  pub operand_may_settle : (r : State) (sum : ReadSum) → operand_in t s ≡ reads r sum → IsLeft s r
+  operand_may_settle r sum same = operand-by r sum (read_operand (operand_of (value (bindings s) t)) (nothing_made (next s))) refl same

@@ -77,7 +77,7 @@ front-items Q x (Some xs) h k = item-reads Q x xs h k
 mutual
   unfolding operand_of Occurs
 
-  operand-reads : (Q : ℕ → Type 0) (t : Tree) → TermOnly Q t → ReadsOperand Q (operand_of t)
+  pub operand-reads : (Q : ℕ → Type 0) (t : Tree) → TermOnly Q t → ReadsOperand Q (operand_of t)
   operand-reads Q (var m) h = variable-reads Q m (h m refl)
   operand-reads Q (int i) h = number-reads Q i
   operand-reads Q (atom name) h = none-reads Q (atom name)

@@ -1,5 +1,5 @@
 -- Options, alternatives and labellings, worked through the definitions.
-use Rattle.std.specs.Prelude.{◌≡◌, ℕ, ℤ, pos, negsuc, int_le, Bool, true, false, cond, List, [], ◌∷◌, Some, None, codes, refl}
+use Rattle.std.specs.Prelude.{◌≡◌, ℕ, ◌-◌, ◌^◌, ℤ, pos, negsuc, int_le, Bool, true, false, cond, List, [], ◌∷◌, Some, None, codes, refl}
 use Rattle.std.specs.Str.{bytes_eq}
 use Rattle.pi_terms.specs.Tree.{Tree, var, int, atom, comp, no_trees, tree}
 use Rattle.pi_terms.specs.Variables.{firsts}
@@ -19,7 +19,7 @@ use Rattle.pi_settling.specs.Confined.{confined}
 use Rattle.pi_settling.specs.Choices.{Pending, pending, smallest, picked, is_value, at_most, above, alternatives}
 use Rattle.pi_settling.specs.Label.{all_tried, labelled_at}
 use Rattle.pi_settling.specs.Reading.{reads, Reading, Solving}
-use Rattle.pi_settling.specs.Rounds.{better_sign, weighed, bettered, solved}
+use Rattle.pi_settling.specs.Rounds.{better_sign, count_better, weighed, bettered, solved}
 use Rattle.pi_settling.specs.SearchLoad.{way_for, squares, search_load}
 use Rattle.pi_settling.specs.Assignments.{with_load}
 
@@ -161,6 +161,17 @@ climbing = record {
 third-round : solved climbing 3 empty_state ≡ one (with_new (with_new (with_new empty_state)))
 unfolding bettered labelled_at confined chosen then alt
 third-round = refl
+
+-- at the ends of 128 bits no integer is better than one, or all others are
+better-counts :
+    (count_better false (negsuc (2 ^ 127 - 1)) ≡ 0)
+    × (count_better false (negsuc (2 ^ 127 - 3)) ≡ 2)
+    × (count_better false (pos 0) ≡ 2 ^ 127)
+    × (count_better true (pos (2 ^ 127 - 1)) ≡ 0)
+    × (count_better true (pos (2 ^ 127 - 4)) ≡ 3)
+    × (count_better true (negsuc (2 ^ 127 - 1)) ≡ 2 ^ 128 - 1)
+    × (count_better false (pos (2 ^ 127 - 1)) ≡ 2 ^ 128 - 1)
+better-counts = (refl, refl, refl, refl, refl, refl, refl)
 
 -- better is strictly so, and an expression that is no integer behind a round is told
 better-signs : (better_sign false ≡ codes "#<") × (better_sign true ≡ codes "#>")

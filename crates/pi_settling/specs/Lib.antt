@@ -16,6 +16,7 @@ pub mod Choices
 pub mod Label
 pub mod Reading
 pub mod Rounds
+pub mod Words
 pub mod SearchLoad
 pub mod Assignments
 pub mod LabelLaws

@@ -1,7 +1,7 @@
 -- Labelling with an objective, in rounds: each begins from the call's state, the first with what the reading of the expression posts, each later one with
 -- a better value posted, and takes its first answer. The first round without an answer ends the search, and the last answer that was found is the one
 -- answer. A later round takes one from the depth. (A User's Guide to Picat, 'Constraints'; the rounds are own.)
-use Rattle.std.specs.Prelude.{ℕ, zero, suc, ℤ, Bool, true, false, List, Option, Some, None, codes}
+use Rattle.std.specs.Prelude.{ℕ, zero, suc, ◌-◌, ◌^◌, min, ℤ, pos, negsuc, ◌+ℤ◌, ◌-ℤ◌, Bool, true, false, List, Option, Some, None, codes}
 use Rattle.pi_terms.specs.Tree.{int}
 use Rattle.pi_traces.specs.Trace.{Trace, end, Raise, Deep, done, one, then}
 use Rattle.pi_traces.specs.Control.{chosen}
@@ -50,6 +50,15 @@ bettered p o (suc d) s r v = chosen (round p d (betters p o v s)) (λ q. weighed
 -- all rounds
 abbrev pub sought : Solving → Objective → ℕ → State → Trace State
 sought p o d s = chosen (round p d (begins p o s)) (λ q. weighed o q (worth p o q) (bettered p o d s q)) done
+
+-- how many integers of 128 bits are better than a value
+abbrev pub from_zero : ℤ → ℕ
+from_zero (pos n) = n
+from_zero (negsuc n) = 0
+
+abbrev pub count_better : Bool → ℤ → ℕ
+count_better false v = min (from_zero (v +ℤ pos (2 ^ 127))) (2 ^ 128 - 1)
+count_better true v = min (from_zero (pos (2 ^ 127 - 1) -ℤ v)) (2 ^ 128 - 1)
 
 -- ---- `solve`, with an objective or without one
 
