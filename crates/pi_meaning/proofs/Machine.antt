@@ -8,6 +8,8 @@ pub mod RuleForms
 pub mod RunLemmas
 pub mod StackLemmas
 pub mod FactSteps
+pub mod SearchTraces
+pub mod SearchSteps
 pub mod SolveNames
 pub mod LabelTraces
 pub mod LabelSteps

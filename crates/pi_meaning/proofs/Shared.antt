@@ -11,6 +11,7 @@ pub mod FollowLemmas
 pub mod FoundLemmas
 pub mod KnownLemmas
 pub mod LevelLemmas
+pub mod MoreVariables
 pub mod NamesApart
 pub mod SettleLemmas
 pub mod SolveBelow

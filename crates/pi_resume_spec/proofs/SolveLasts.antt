@@ -1,5 +1,5 @@
 -- `solve` lasts as many Ticks as its level counts, in both runs.
-use Rattle.std.specs.Prelude.{ℕ, suc, ◌-◌, ◌≤◌, List, [], ◌∷◌, length, Option, Some, None, codes, option_map, unwrap_or}
+use Rattle.std.specs.Prelude.{ℕ, suc, ◌-◌, ◌≤◌, List, [], ◌∷◌, length, Option, Some, None, option_map, unwrap_or}
 use Rattle.std.proofs.Common.{arith}
 use Rattle.pi_terms.specs.Tree.{Trees, tree_count}
 use Rattle.pi_constraints.specs.State.{State}
@@ -15,13 +15,15 @@ use Rattle.pi_settling.specs.Choices.{Pending, pending, picked, Alternative, alt
 use Rattle.pi_meaning.specs.Shared.Calls.{unknown_name}
 use Rattle.pi_meaning.specs.Shared.Settle.{settled}
 use Rattle.pi_meaning.specs.CoreMeaning.Quiet.{TicksBetween}
+use Rattle.pi_meaning.specs.Shared.Solve.{sought_in}
+use Rattle.pi_meaning.proofs.CoreMeaning.QuietSolve as plain_solve
 use Rattle.pi_meaning.proofs.CoreMeaning.QuietGoals.{worth, counted as counts, worth-counted, settled-lasts}
 use Rattle.pi_resume_spec.specs.Resumed.{simple, sequence}
 use Rattle.pi_resume_spec.specs.Searches.{SearchLevel, bottom, above, searches_at, plain_level, too_deep}
 use Rattle.pi_resume_spec.specs.Label.{Lower, tried, one_tried, tries, labelled_by}
 use Rattle.pi_resume_spec.specs.Solve.{labelled_in, solved_for, solve_search, solve_or_unknown}
 use Rattle.pi_resume_spec.proofs.LastLemmas.{SearchLasts, AllLast, none-search, simple-lasts, only-lasts, sequence-lasts, alternatives-lasts, tick-lasts}
-use Rattle.pi_resume_spec.proofs.LastGoals.{count_at, SearchLevelLasts, searches-last}
+use Rattle.pi_resume_spec.proofs.LastGoals.{count_at, SearchLevelLasts, searches-last, plain-lasts}
 
 -- what the level below does lasts so long
 record LowerLasts (d : ℕ) (l : Lower) : Type 0 where
@@ -68,7 +70,8 @@ level-lasts preds r f d o items (above c l) h last s =
 for-lasts : (preds : List PredTree) (r : TicksBetween preds) (f d : ℕ) (objective : Option Objective) (o : Options) (items : List Item) (l : SearchLevel) → d ≤ count_at l → SearchLevelLasts preds r f l → (s : State) →
     SearchLasts Any d (solved_for objective o items l s)
 for-lasts preds r f d None o items l h last s = level-lasts preds r f d o items l h last (confined s items)
-for-lasts preds r f d (Some objective) o items l h last s = simple-lasts Any any-falls d (unknown_name (codes "solve") 2) (raise-lasts Any d _)
+for-lasts preds r f d (Some b) o items l h last s =
+    simple-lasts Any any-falls d (sought_in o items b (plain_level l) s) (plain_solve.for-lasts preds r (Some b) o items f d (plain_level l) h (plain-lasts preds r f l last) s)
 
 asked-lasts : (preds : List PredTree) (r : TicksBetween preds) (f d : ℕ) (l : SearchLevel) → d ≤ count_at l → SearchLevelLasts preds r f l → (s : State) (a : Asked) → SearchLasts Any d (solve_search l s a)
 asked-lasts preds r f d l h last s (labels o items) = for-lasts preds r f d o.objective o items l h last s

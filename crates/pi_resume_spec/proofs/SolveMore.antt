@@ -9,13 +9,17 @@ use Rattle.pi_settling.specs.SolveCalls.{solve_asked}
 use Rattle.pi_settling.specs.Confined.{confined}
 use Rattle.pi_meaning.specs.Shared.Calls.{unknown_name}
 use Rattle.pi_meaning.specs.Shared.Settle.{settled}
+use Rattle.pi_meaning.specs.Shared.Solve.{sought_in}
+use Rattle.pi_meaning.proofs.Shared.SolveBelow.{for-below}
+use Rattle.pi_traces.specs.Trace.{Trace}
+use Rattle.pi_traces.proofs.RelatedLemmas.{Same, by-below}
 use Rattle.pi_resume_spec.specs.Resumed.{simple}
-use Rattle.pi_resume_spec.specs.Searches.{SearchLevel, bottom, above, searches_at}
+use Rattle.pi_resume_spec.specs.Searches.{SearchLevel, bottom, above, plain_level, searches_at}
 use Rattle.pi_resume_spec.specs.Label.{Lower}
 use Rattle.pi_resume_spec.specs.Solve.{labelled_in, solved_for, solve_search, solve_or_unknown}
 use Rattle.pi_resume_spec.specs.More.{SearchBelow, SearchLevelBelow}
-use Rattle.pi_resume_spec.proofs.MoreLemmas.{search-itself}
-use Rattle.pi_resume_spec.proofs.MoreGoals.{searches-below}
+use Rattle.pi_resume_spec.proofs.MoreLemmas.{search-below, search-itself, simple-by}
+use Rattle.pi_resume_spec.proofs.MoreGoals.{searches-below, plain-below}
 use Rattle.pi_resume_spec.proofs.MoreStages.{labelled-more}
 
 abbrev lower_of : Options → List Item → SearchLevel → Lower
@@ -31,7 +35,10 @@ level-more o items (above c l) (above d m) h s =
 
 for-more : (objective : Option Objective) (o : Options) (items : List Item) (l m : SearchLevel) → SearchLevelBelow l m → (s : State) → SearchBelow (solved_for objective o items l s) (solved_for objective o items m s)
 for-more None o items l m h s = level-more o items l m h (confined s items)
-for-more (Some objective) o items l m h s = search-itself (solved_for (Some objective) o items l s)
+for-more (Some b) o items l m h s =
+    let t : Trace State = sought_in o items b (plain_level l) s in
+    let u : Trace State = sought_in o items b (plain_level m) s in
+    search-below (simple t) (simple u) (simple-by Same t u (by-below t u (for-below (Some b) o items (plain_level l) (plain_level m) (plain-below l m h) s)))
 
 asked-more : (l m : SearchLevel) → SearchLevelBelow l m → (s : State) (a : Asked) → SearchBelow (solve_search l s a) (solve_search m s a)
 asked-more l m h s (labels o items) = for-more o.objective o items l m h s

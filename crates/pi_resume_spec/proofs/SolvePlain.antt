@@ -1,5 +1,5 @@
 -- `solve` without its paths is that of the meaning; and which goals of later stages it is.
-use Rattle.std.specs.Prelude.{◌≡◌, ℕ, Bool, true, false, not, is_some, List, Option, Some, None, codes, option_map, unwrap_or, refl}
+use Rattle.std.specs.Prelude.{◌≡◌, ℕ, Bool, true, false, not, is_some, List, Option, Some, None, option_map, unwrap_or, refl}
 use Rattle.std.proofs.Common.{sym, ◌∙◌, ap}
 use Rattle.pi_terms.specs.Tree.{Trees, tree_count}
 use Rattle.pi_constraints.specs.State.{State}
@@ -40,7 +40,7 @@ level-plain o items (above c l) s =
 
 for-plain : (objective : Option Objective) (o : Options) (items : List Item) (l : SearchLevel) (s : State) → without_paths (solved_for objective o items l s) ≡ over_levels.solved_for objective o items (plain_level l) s
 for-plain None o items l s = level-plain o items l (confined s items)
-for-plain (Some objective) o items l s = plain-simple (unknown_name (codes "solve") 2)
+for-plain (Some b) o items l s = plain-simple (over_levels.sought_in o items b (plain_level l) s)
 
 asked-plain : (l : SearchLevel) (s : State) (a : Asked) → without_paths (solve_search l s a) ≡ over_levels.solve_trace (plain_level l) s a
 asked-plain l s (labels o items) = for-plain o.objective o items l s

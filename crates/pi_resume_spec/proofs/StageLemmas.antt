@@ -121,7 +121,7 @@ solving-adds-nothing p drains same None d s =
     ∙ ap {B = Trace State} (λ f. plain_label.labelling p.settle f p.chosen_options p.items d s) (λ i n r. same n r i)
 solving-adds-nothing p drains same (Some o) d s = plain-simple (sought p o d s)
 
-one-weighed : (o : Objective) (r : State) (v : Option ℤ) (next : ℤ → Trace State) → ((i : ℤ) → OneAtMost (next i)) → OneAtMost (weighed o r v next)
+pub one-weighed : (o : Objective) (r : State) (v : Option ℤ) (next : ℤ → Trace State) → ((i : ℤ) → OneAtMost (next i)) → OneAtMost (weighed o r v next)
 one-weighed o r None next all = one-end State (Raise (type_error (codes "integer") o.expression r))
 one-weighed o r (Some i) next all = all i
 

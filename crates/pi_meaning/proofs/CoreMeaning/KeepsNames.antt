@@ -205,7 +205,7 @@ given-keeps v preds l k name ts s is below =
     first-keeps s (built_in (setting v preds) name ts s) (given_later (setting v preds) l name ts s) (option-keeps s is v (built_in_predicate name ts s) (tables-keep name ts s is below))
     (where-keeps s (is_later_predicate name (tree_count ts)) (built_later.predicate v l name ts s) None
     (or-else-keeps s (option_map (settled_effect v s) (constraint_effect name ts s)) (solve_or_unknown l name ts s) (option-keeps s is v (constraint_effect name ts s) (goal-keeps name ts s is below))
-    (solve-keeps l k name ts s is)) tt)
+    (solve-keeps l k name ts s is below)) tt)
 
 or-called-keeps : (l : Level) → LevelKeeps l → (name : List ℕ) (ts : Trees) (s : State) → IsCalm s → TreesBelow (next s) ts → (o : Option (Trace State)) → OptionKeeps s o → EachAnswer (CalmLater s) (or_called o l name ts s)
 or-called-keeps l k name ts s is below None h = (calls-keep l k).called name ts s is below

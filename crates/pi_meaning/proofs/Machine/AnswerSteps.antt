@@ -1,7 +1,7 @@
 -- Lemmas on steps: an answer of a level, of a `catch`, of the query.
 use Rattle.std.proofs.Common.{◌≡◌, ℕ, suc, ◌+◌, List, [], ◌∷◌, ◌++◌, refl, ap, sym, ◌∙◌, arith, append_assoc}
 use Rattle.std.proofs.Math.Path.{fun_ext}
-use Rattle.std.specs.Prelude.{Bool, true, false, cond, codes, pos, nat_lt, slice_set}
+use Rattle.std.specs.Prelude.{Bool, true, false, Option, cond, codes, pos, nat_lt, slice_set}
 use Rattle.pi_terms.specs.Tree.{Tree, int, atom, cells, most_cells}
 use Rattle.pi_terms.specs.Places.{Places, held}
 use Rattle.pi_constraints.specs.State.{State}
@@ -14,7 +14,7 @@ use Rattle.pi_meaning.specs.Shared.Level.{Level, Point}
 use Rattle.pi_meaning.specs.CoreMeaning.Meaning.{with_slot, slot_value, copyable, with_list}
 use Rattle.pi_meaning.specs.CoreMeaning.Run.{Solution, solution, told, answered_with}
 use Rattle.pi_core.specs.declared.core_program.NameSlot.{NameSlot}
-use Rattle.pi_meaning.specs.Machine.Configuration.{Frame, Back, Strict, once_level, not_level, if_level, guard_level, value_level, list_level, number_level, Entry, strict, catch_level, going, failed, raising, config}
+use Rattle.pi_meaning.specs.Machine.Configuration.{Frame, Back, Search, Found, Strict, once_level, not_level, if_level, guard_level, value_level, list_level, number_level, search_level, Entry, strict, catch_level, going, failed, raising, config}
 use Rattle.pi_meaning.specs.Machine.Remaining.{point, continued, run_from, start_of, level_trace, catch_trace, around, now_trace}
 use Rattle.pi_meaning.specs.Machine.Step.{strict_step, leave, fits}
 use Rattle.pi_meaning.proofs.Machine.StackLemmas.{IsClosed, Reach, reach}
@@ -58,34 +58,41 @@ list-reached given l slot into got above b below r false t =
     ap (λ u. around given l below u []) (list-answer given l slot into got b (then r.0 (λ q. copyable (slot_value slot q.slots q.state))) false t)
     ∙ sym (r.1 done [] (strict (list_level slot into (got ++ t ∷ [])) b ∷ below))
 
-pub strict-answer : (given : Builtins) (l : Level) (level : Strict) (e : Places) (s : State) (above : List Entry) → IsClosed 0 above → (b : Back) (below : List Entry) →
+-- an answer of a round of a search
+abbrev pub SearchAnswers : Builtins → Level → Type 0
+SearchAnswers given l =
+    (x : Search) (labelled : Bool) (f : Option Found) (e : Places) (s : State) (above : List Entry) → IsClosed 0 above → (b : Back) (below : List Entry) →
+    Is given l (above ++ strict (search_level x labelled f) b ∷ below) (one (point l e s)) (strict_step (search_level x labelled f) e s above b below)
+
+pub strict-answer : (given : Builtins) (l : Level) → SearchAnswers given l → (level : Strict) (e : Places) (s : State) (above : List Entry) → IsClosed 0 above → (b : Back) (below : List Entry) →
     Is given l (above ++ strict level b ∷ below) (one (point l e s)) (strict_step level e s above b below)
 unfolding around now_trace level_trace strict_step then alt first negated chosen collected counted
-strict-answer given l once_level e s above h b below =
+strict-answer given l searches once_level e s above h b below =
     let r : Reach given l above done = reach given l above h done in
     r.1 (one (point l e s)) [] (strict once_level b ∷ below) ∙ ap (λ u. around given l below u []) (goes-on given l b.frames e s)
-strict-answer given l not_level e s above h b below =
+strict-answer given l searches not_level e s above h b below =
     let r : Reach given l above done = reach given l above h done in
     r.1 (one (point l e s)) [] (strict not_level b ∷ below)
-strict-answer given l (if_level g other) e s above h b below =
+strict-answer given l searches (if_level g other) e s above h b below =
     let r : Reach given l above done = reach given l above h done in
     r.1 (one (point l e s)) [] (strict (if_level g other) b ∷ below) ∙ ap (λ u. around given l below u []) (sym (goal-alone given l g e s b.frames))
-strict-answer given l (guard_level called c cs) e s above h b below =
+strict-answer given l searches (guard_level called c cs) e s above h b below =
     let r : Reach given l above done = reach given l above h done in
     r.1 (one (point l e s)) [] (strict (guard_level called c cs) b ∷ below)
     ∙ rule-taken given l called c cs b below e s
-strict-answer given l (value_level called into) e s above h b below =
+strict-answer given l searches (value_level called into) e s above h b below =
     let r : Reach given l above done = reach given l above h done in
     r.1 (one (point l e s)) [] (strict (value_level called into) b ∷ below) ∙ ap (λ u. around given l below u []) (goes-on given l b.frames (slice_set b.slots into (held e 0)) s)
-strict-answer given l (list_level slot into got) e s above h b below =
+strict-answer given l searches (list_level slot into got) e s above h b below =
     let r : Reach given l above done = reach given l above h done in
     r.1 (one (point l e s)) [] (strict (list_level slot into got) b ∷ below)
     ∙ list-reached given l slot into got above b below r (nat_lt most_cells (cells (slot_value slot e s))) (slot_value slot e s)
-strict-answer given l (number_level into n) e s above h b below =
+strict-answer given l searches (number_level into n) e s above h b below =
     let r : Reach given l above done = reach given l above h done in
     r.1 (one (point l e s)) [] (strict (number_level into n) b ∷ below)
     ∙ (ap (λ u. around given l below u []) (number-answer given l into n b r.0)
     ∙ sym (r.1 done [] (strict (number_level into (suc n)) b ∷ below)))
+strict-answer given l searches (search_level x labelled f) e s above h b below = searches x labelled f e s above h b below
 
 -- ---- a catch that is left
 

@@ -1,12 +1,12 @@
 -- Lemmas on steps: a goal that has no further answer, and exceptions.
 use Rattle.std.proofs.Common.{◌≡◌, ℕ, zero, suc, List, [], ◌∷◌, ◌++◌, refl, ap, sym, ◌∙◌, arith}
 use Rattle.std.proofs.Math.Path.{fun_ext}
-use Rattle.std.specs.Prelude.{Option, Some, None, codes, pos, slice_set}
+use Rattle.std.specs.Prelude.{true, false, Option, Some, None, codes, pos, slice_set}
 use Rattle.pi_terms.specs.Tree.{Tree, Trees, int}
 use Rattle.pi_terms.specs.Copy.{copy, new_variables}
 use Rattle.pi_constraints.specs.State.{State, next}
 use Rattle.pi_constraints.specs.Unify.{unified}
-use Rattle.pi_core.specs.GoalTree.{GoalTree, GoalTrees}
+use Rattle.pi_core.specs.GoalTree.{GoalTree, GoalTrees, no_goals}
 use Rattle.pi_core.specs.CoreTree.{ClauseTree}
 use Rattle.pi_settling.specs.Choices.{Pending}
 use Rattle.pi_traces.specs.Trace.{end, Raise, done, one, alt, then, first}
@@ -20,13 +20,13 @@ use Rattle.pi_meaning.specs.Shared.Level.{Level, Point}
 use Rattle.pi_meaning.specs.CoreMeaning.Meaning.{with_slot, with_list, meaning}
 use Rattle.pi_meaning.specs.Shared.Handling.{handled_in}
 use Rattle.pi_terms.specs.ListCopies.{list_of_copies, new_in_all}
-use Rattle.pi_traces.proofs.TraceLemmas.{then-assoc}
-use Rattle.pi_meaning.specs.Machine.Configuration.{Back, Called, Choice, rules_left, facts_left, branches_left, alternatives_left, Strict, once_level, not_level, if_level, guard_level, value_level, list_level, number_level, Entry, choice, strict, catch_level, left, failed, raising, config}
-use Rattle.pi_meaning.specs.Machine.Remaining.{point, continued, start_of, alternatives_trace, choice_trace, level_trace, catch_trace, around, now_trace}
+use Rattle.pi_traces.proofs.TraceLemmas.{then-assoc, alt-done}
+use Rattle.pi_meaning.specs.Machine.Configuration.{Back, Called, Choice, rules_left, facts_left, branches_left, alternatives_left, Strict, once_level, not_level, if_level, guard_level, value_level, list_level, number_level, search_level, Entry, choice, strict, catch_level, left, failed, raising, config}
+use Rattle.pi_meaning.specs.Machine.Remaining.{point, continued, run_from, start_of, alternatives_trace, choice_trace, level_trace, catch_trace, around, now_trace}
 use Rattle.pi_meaning.specs.Machine.Step.{unresolved, branch, try_rules, try_facts, end_step, handler_step, Open, none_open, strict_open, catch_open, beneath, newest_open, below_left}
 use Rattle.pi_meaning.specs.Machine.Shape.{IsBalanced}
 use Rattle.pi_meaning.proofs.Machine.StackLemmas.{IsClosed, Reach, reach, exit-passes}
-use Rattle.pi_meaning.proofs.Machine.RunLemmas.{goal-alone}
+use Rattle.pi_meaning.proofs.Machine.RunLemmas.{goal-alone, no-goal}
 use Rattle.pi_meaning.proofs.Machine.GoalSteps.{Is, branch-is, rules-tried}
 use Rattle.pi_meaning.proofs.Machine.FactSteps.{facts-tried}
 use Rattle.pi_meaning.proofs.Machine.AnswerSteps.{goes-on, append-none}
@@ -55,6 +55,11 @@ pub unresolved-raise : (A : Type 0) (called : Tree) (s : State) → raised_with 
 unfolding raised_with exception_with
 unresolved-raise A called s = refl
 
+-- what a search found goes on
+pub found-goes-on : (given : Builtins) (l : Level) (b : Back) (s : State) → then (one s) (λ r. continued given l b.frames (point l b.slots r)) ≡ run_from given l no_goals b.slots s b.frames
+unfolding then
+found-goes-on given l b s = alt-done (continued given l b.frames (point l b.slots s)) ∙ sym (no-goal given l b.slots s b.frames)
+
 pub strict-ends : (given : Builtins) (l : Level) (level : Strict) (b : Back) (es : List Entry) → Is given l (strict level b ∷ es) done (end_step level b es)
 unfolding around level_trace end_step now_trace then first negated chosen collected counted alt
 strict-ends given l once_level b es = refl
@@ -69,6 +74,10 @@ strict-ends given l (list_level slot into got) b es =
 strict-ends given l (number_level into n) b es =
     ap (λ m. around given l es (then (one (with_slot (start_of l b) into (int (pos m)))) (continued given l b.frames)) []) (omega arith)
     ∙ ap (λ u. around given l es u []) (goes-on given l b.frames (slice_set b.slots into (Some (int (pos n)))) b.state)
+strict-ends given l (search_level x false None) b es = refl
+strict-ends given l (search_level x true None) b es = refl
+strict-ends given l (search_level x false (Some f)) b es = ap (λ u. around given l es u []) (found-goes-on given l b f.state)
+strict-ends given l (search_level x true (Some f)) b es = ap (λ u. around given l es u []) (found-goes-on given l b f.state)
 
 pub catch-ends : (given : Builtins) (l : Level) (ball : Tree) (handler : GoalTree) (b : Back) (es : List Entry) → Is given l (catch_level ball handler b ∷ es) done (config failed es)
 unfolding around catch_trace now_trace then caught alt
@@ -93,6 +102,8 @@ strict-raises given l (guard_level called c cs) b es ball = refl
 strict-raises given l (value_level called into) b es ball = refl
 strict-raises given l (list_level slot into got) b es ball = refl
 strict-raises given l (number_level into n) b es ball = refl
+strict-raises given l (search_level x false f) b es ball = refl
+strict-raises given l (search_level x true f) b es ball = refl
 
 handler-runs : (given : Builtins) (l : Level) (handler : GoalTree) (b : Back) (raised : Tree) (o : Option State) →
     then (handled_in b.state raised (λ s. meaning given handler (point l b.slots s)) o) (continued given l b.frames) ≡ now_trace given l (handler_step handler b raised o)

@@ -1,6 +1,6 @@
 -- Each step leaves a stack in which each mark of a `catch` that was left has its `catch`.
 use Rattle.std.proofs.Common.{ℕ, zero, suc, List, [], ◌∷◌, ◌++◌, subst}
-use Rattle.std.specs.Prelude.{Bool, true, false, Option, Some, None, cond, replicate}
+use Rattle.std.specs.Prelude.{ℤ, Bool, true, false, Option, Some, None, cond, codes, replicate}
 use Rattle.std.specs.List.{list_any}
 use Rattle.pi_terms.specs.Tree.{Tree, Trees, tree_count, trees_of}
 use Rattle.pi_terms.specs.Places.{Places}
@@ -15,8 +15,8 @@ use Rattle.pi_meaning.specs.CoreMeaning.Facts.{fits_modes}
 use Rattle.pi_meaning.specs.CoreMeaning.Run.{Solution}
 use Rattle.pi_syntax.specs.declared.program.Mode.{Mode}
 use Rattle.pi_core.specs.declared.core_program.NameSlot.{NameSlot}
-use Rattle.pi_meaning.specs.Machine.Configuration.{Frame, more, return, give, Back, Called, Choice, rules_left, facts_left, branches_left, alternatives_left, Strict, once_level, not_level, if_level, guard_level, value_level, list_level, number_level, Entry, choice, strict, catch_level, left, Now, going, settling, failed, raising, Config, config, behind, telling}
-use Rattle.pi_meaning.specs.Machine.Step.{back_to, branch, guarding, tried, try_rules, with_fact, from_unifying, later_facts, fact_tried, try_facts, try_clauses, later_rules, call_step, predicate_step, effect_step, function_step, value_step, goal_step, frame_step, Open, none_open, strict_open, catch_open, newest_open, strict_step, leave, fits, told_step, answer_step, choice_step, end_step, fail_step, below_left, raise_step, now_step, step, later_step, name_step, later_value, other_value, trial, with_rest, Rest, NameCall, name_call, left_now, loaded_step, later_alternatives, alternatives_step, label_step, labels_step, solve_step}
+use Rattle.pi_meaning.specs.Machine.Configuration.{Frame, more, return, give, Back, Called, Choice, rules_left, facts_left, branches_left, alternatives_left, Strict, once_level, not_level, if_level, guard_level, value_level, list_level, number_level, Search, Found, search_level, Entry, choice, strict, catch_level, left, Now, going, settling, failed, raising, Config, config, behind, telling}
+use Rattle.pi_meaning.specs.Machine.Step.{back_to, branch, guarding, tried, try_rules, with_fact, from_unifying, later_facts, fact_tried, try_facts, try_clauses, later_rules, call_step, predicate_step, effect_step, function_step, value_step, goal_step, frame_step, Open, none_open, strict_open, catch_open, newest_open, strict_step, leave, fits, told_step, answer_step, choice_step, end_step, fail_step, below_left, raise_step, now_step, step, later_step, name_step, later_value, other_value, trial, with_rest, Rest, NameCall, name_call, left_now, loaded_step, later_alternatives, alternatives_step, label_step, labels_step, solve_step, search_args, round_call, rounds_after, next_round, weighed_step, worth_in, searched, round_step}
 use Rattle.pi_meaning.specs.Machine.Shape.{IsBalanced, IsGood}
 use Rattle.pi_meaning.specs.Machine.Laws.{GoesOnGood}
 use Rattle.pi_meaning.proofs.Machine.StackLemmas.{IsClosed, IsFound, newest-found}
@@ -132,6 +132,7 @@ label-good c w s r None h = h
 label-good c w s r (Some p) h = h
 
 labels-good : (objective : Option Objective) (o : Options) (items : List Item) (c : NameCall) (r : Rest) → IsBalanced 0 r.stack → Keeps (labels_step objective o items c r)
+unfolding IsBalanced
 labels-good (Some objective) o items c r h = h
 labels-good None o items c r h =
     let s : State = confined c.all.state items in label-good c o.value s r (picked (pending s items) o.variable) h
@@ -202,6 +203,26 @@ frame-keeps (return f) e s k es h = h
 frame-keeps (give None) e s k es h = h
 frame-keeps (give (Some t)) e s k es h = h
 
+-- ---- searches
+
+round-good : (a : Option Asked) (c : NameCall) (r : Rest) → IsBalanced 0 r.stack → Keeps (round_step a c r)
+round-good None c r h = h
+round-good (Some (raises ball)) c r h = h
+round-good (Some (labels o items)) c r h = labels-good None o items c r h
+
+next-keeps : (n : ℕ) (x : Search) (q : State) (v : ℤ) (b : Back) (es : List Entry) → IsBalanced 0 es → Keeps (next_round n x q v b es)
+unfolding next_round IsBalanced
+next-keeps zero x q v b es h = h
+next-keeps (suc n) x q v b es h = h
+
+weighed-keeps : (x : Search) (f : Option Found) (q : State) (w : Option ℤ) (b : Back) (es : List Entry) → IsBalanced 0 es → Keeps (weighed_step x f q w b es)
+weighed-keeps x f q None b es h = h
+weighed-keeps x f q (Some v) b es h = next-keeps (rounds_after x.objective f v) x q v b es h
+
+searched-keeps : (f : Option Found) (b : Back) (es : List Entry) → IsBalanced 0 es → Keeps (searched f b es)
+searched-keeps None b es h = h
+searched-keeps (Some f) b es h = h
+
 strict-keeps : (level : Strict) (e : Places) (s : State) (above : List Entry) (b : Back) (below : List Entry) → IsClosed 0 above → IsBalanced 0 below →
     Keeps (strict_step level e s above b below)
 unfolding strict_step IsBalanced
@@ -212,6 +233,9 @@ strict-keeps (guard_level called d cs) e s above b below c h = later-keep (leave
 strict-keeps (value_level called into) e s above b below c h = h
 strict-keeps (list_level slot into got) e s above b below c h = rest-closed 0 above (strict (list_level slot into _) b ∷ below) c h
 strict-keeps (number_level into n) e s above b below c h = rest-closed 0 above (strict (number_level into (suc n)) b ∷ below) c h
+strict-keeps (search_level x false f) e s above b below c h =
+    round-good (solve_asked (codes "solve") (search_args x) s) (round_call x s) (with_rest no_goals [] (strict (search_level x true f) b ∷ below)) h
+strict-keeps (search_level x true f) e s above b below c h = weighed-keeps x f s (worth_in x s) b below h
 
 leave-keeps : (above : List Entry) (ball : Tree) (handler : GoalTree) (b : Back) (below : List Entry) → IsClosed 0 above → IsBalanced 0 below →
     IsBalanced 0 (leave above ball handler b below)
@@ -241,6 +265,7 @@ end-keeps (guard_level called c cs) b es h = rules-keep called cs b es h
 end-keeps (value_level called into) b es h = h
 end-keeps (list_level slot into got) b es h = h
 end-keeps (number_level into n) b es h = h
+end-keeps (search_level x labelled f) b es h = searched-keeps f b es h
 
 later-alternatives-keep : (name : List ℕ) (args : List Tree) (p : Pending) (alts : List Alternative) (b : Back) (es : List Entry) → IsBalanced 0 es →
     IsBalanced 0 (later_alternatives name args p alts b es)

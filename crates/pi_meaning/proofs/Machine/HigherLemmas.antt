@@ -1,6 +1,6 @@
 -- More depth only adds to what remains: at a higher level, goals, frames and entries do the same and maybe more.
-use Rattle.std.proofs.Common.{ℕ, suc, ◌+◌, List, [], ◌∷◌, ◌++◌, sym, subst}
-use Rattle.std.specs.Prelude.{Bool, true, false, Option, Some, None, codes, pos, replicate, slice_set, ⊤}
+use Rattle.std.proofs.Common.{ℕ, zero, suc, ◌+◌, List, [], ◌∷◌, ◌++◌, sym, subst}
+use Rattle.std.specs.Prelude.{Bool, true, false, Option, Some, None, codes, ℤ, pos, replicate, slice_set, ⊤}
 use Rattle.pi_terms.specs.Tree.{Tree, Trees, int}
 use Rattle.pi_terms.specs.Places.{Places, held}
 use Rattle.pi_constraints.specs.State.{State, bindings, next}
@@ -12,9 +12,11 @@ use Rattle.pi_core.specs.CoreTree.{ClauseTree, leaves_others}
 use Rattle.pi_traces.specs.Trace.{Trace, Done, Raise, Tick, one, done, alt, then, first, Out}
 use Rattle.pi_traces.specs.Control.{negated, chosen, collected, counted, caught}
 use Rattle.pi_traces.specs.Depth.{Below}
+use Rattle.pi_settling.specs.Rounds.{weighed}
 use Rattle.pi_traces.specs.Related.{BelowBy, deeper_by, end_by, note_by}
 use Rattle.pi_meaning.specs.CoreMeaning.Builtins.{Builtins, BuiltinsOnlyAdd}
 use Rattle.pi_meaning.specs.Shared.Settle.{settled}
+use Rattle.pi_meaning.proofs.Shared.SolveBelow.{weighed-below}
 use Rattle.pi_constraints.specs.Evaluation.{Evaluated, evaluated, with_new_variables}
 use Rattle.pi_constraints.specs.HeadMatch.{matched_all_in}
 use Rattle.pi_meaning.specs.Shared.Raise.{raised_with}
@@ -26,13 +28,13 @@ use Rattle.pi_meaning.specs.CoreMeaning.Rules.{guarded, chosen_rule, rule_before
 use Rattle.pi_meaning.specs.CoreMeaning.Run.{answered_with}
 use Rattle.pi_core.specs.declared.core_program.NameSlot.{NameSlot}
 use Rattle.pi_traces.proofs.BelowLemmas.{below-refl}
-use Rattle.pi_traces.proofs.RelatedLemmas.{Same, same, below-by, by-same, by-one, by-alt, by-then, by-then_same, by-first, by-negated, by-chosen, by-collected, by-counted, by-caught}
+use Rattle.pi_traces.proofs.RelatedLemmas.{Same, same, below-by, by-below, by-same, by-one, by-alt, by-then, by-then_same, by-first, by-negated, by-chosen, by-collected, by-counted, by-caught}
 use Rattle.pi_meaning.proofs.CoreMeaning.MeaningLemmas.{calls-below, at-points, all-monotone, any-monotone, meaning-below, strict-below}
-use Rattle.pi_meaning.specs.Machine.Configuration.{Frame, more, return, give, Back, Called, Choice, rules_left, facts_left, branches_left, alternatives_left, Strict, once_level, not_level, if_level, guard_level, value_level, list_level, number_level, Entry, choice, strict, catch_level, left, Now, going, settling, failed, raising, Config, after_body, telling}
-use Rattle.pi_meaning.specs.Machine.Step.{unresolved}
+use Rattle.pi_meaning.specs.Machine.Configuration.{Frame, more, return, give, Back, Called, Choice, rules_left, facts_left, branches_left, alternatives_left, Strict, once_level, not_level, if_level, guard_level, value_level, list_level, number_level, Search, Found, search_level, Entry, choice, strict, catch_level, left, Now, going, settling, failed, raising, Config, after_body, telling}
+use Rattle.pi_meaning.specs.Machine.Step.{unresolved, search_slots, round_goal, rounds_after, worth_in}
 use Rattle.pi_meaning.proofs.Machine.EndSteps.{unresolved-raise}
 use Rattle.pi_meaning.proofs.Machine.FactSteps.{behind_fact}
-use Rattle.pi_meaning.specs.Machine.Remaining.{point, valued, continued, run_from, start_of, body_of, rules_trace, facts_trace, alternative_tried, alternatives_trace, choice_trace, level_trace, catch_trace, outside, further, around, now_trace, remaining_at}
+use Rattle.pi_meaning.specs.Machine.Remaining.{point, valued, continued, run_from, start_of, body_of, rules_trace, facts_trace, alternative_tried, alternatives_trace, choice_trace, last_found, labels_of_round, better_posted, later_rounds, sought_from, round_trace, level_trace, catch_trace, outside, further, around, now_trace, remaining_at}
 
 -- the same trace at a higher level, and maybe more
 abbrev pub Under : Trace Point → Trace Point → Type 0
@@ -197,6 +199,50 @@ numbered-under l m h b into n =
 raised-under : (called : Tree) (s : State) → Under (raised_with (codes "unresolved_function_call") called s) (raised_with (codes "unresolved_function_call") called s)
 raised-under called s = subst (λ t. Under t t) (sym (unresolved-raise Point called s)) (end_by (Raise (unresolved called s)))
 
+-- what a round labels
+labelled-under : (given : Builtins) (adds : BuiltinsOnlyAdd given) (l m : Level) → LevelBelow l m → (x : Search) (s : State) → Under (labels_of_round given l x s) (labels_of_round given m x s)
+labelled-under given adds l m h x s = meaning-below given adds round_goal (point l (search_slots x) s) (point m (search_slots x) s) (same_but_level h (search_slots x) s)
+
+-- what is made of a round's answer, by what follows its value
+weighed-under : (x : Search) (f g : State → ℤ → Trace State) → ((s : State) (i : ℤ) → Below (f s i) (g s i)) → (p q : Point) → PointBelow p q →
+    BelowBy Same (weighed x.objective p.state (worth_in x p.state) (f p.state)) (weighed x.objective q.state (worth_in x q.state) (g q.state))
+weighed-under x f g below _ _ (same_but_level a e s) =
+    by-below (weighed x.objective s (worth_in x s) (f s)) (weighed x.objective s (worth_in x s) (g s)) (weighed-below x.objective s (worth_in x s) (f s) (g s) (below s))
+
+later-under : (given : Builtins) (adds : BuiltinsOnlyAdd given) (l m : Level) → LevelBelow l m → (x : Search) (s : State) (n : ℕ) (r : State) (i : ℤ) →
+    Below (later_rounds given l x s n r i) (later_rounds given m x s n r i)
+unfolding later_rounds
+later-under given adds l m h x s zero r i = below-refl (one r)
+later-under given adds l m h x s (suc n) r i =
+    let posted : Trace State = better_posted x s i in
+    let low : State → ℤ → Trace State = later_rounds given l x s n in
+    let high : State → ℤ → Trace State = later_rounds given m x s n in
+    let here : Point → Trace State = λ q. weighed x.objective q.state (worth_in x q.state) (low q.state) in
+    let there : Point → Trace State = λ q. weighed x.objective q.state (worth_in x q.state) (high q.state) in
+    let t : Trace Point = then posted (labels_of_round given l x) in
+    let u : Trace Point = then posted (labels_of_round given m x) in
+    below-by (chosen t here (one r)) (chosen u there (one r))
+    (by-chosen PointBelow Same t u here there (one r) (one r)
+    (by-then_same PointBelow posted posted (labels_of_round given l x) (labels_of_round given m x) (below-refl posted) (labelled-under given adds l m h x))
+    (weighed-under x low high (λ q j. later-under given adds l m h x s n q j)) (by-same (one r)))
+
+round-under : (given : Builtins) (adds : BuiltinsOnlyAdd given) (l m : Level) → LevelBelow l m → (x : Search) (labelled : Bool) (t t' : Trace Point) → Under t t' →
+    Under (round_trace given l x labelled t) (round_trace given m x labelled t')
+round-under given adds l m h x true t t' a = a
+round-under given adds l m h x false t t' a =
+    let f : Action = λ q. labels_of_round given l x q.state in
+    let g : Action = λ q. labels_of_round given m x q.state in
+    by-then PointBelow PointBelow (first t) (first t') f g (by-first PointBelow t t' a)
+    (λ p q r. meaning-below given adds round_goal (point l (search_slots x) p.state) (point m (search_slots x) q.state) (at-block l m h (search_slots x) p q r))
+
+sought-under : (given : Builtins) (adds : BuiltinsOnlyAdd given) (l m : Level) → LevelBelow l m → (x : Search) (f : Option Found) (b : Back) (t t' : Trace Point) → Under t t' →
+    BelowBy Same (sought_from given l x f b t) (sought_from given m x f b t')
+sought-under given adds l m h x f b t t' a =
+    let low : State → ℤ → Trace State = λ q i. later_rounds given l x b.state (rounds_after x.objective f i) q i in
+    let high : State → ℤ → Trace State = λ q i. later_rounds given m x b.state (rounds_after x.objective f i) q i in
+    by-chosen PointBelow Same t t' (λ q. weighed x.objective q.state (worth_in x q.state) (low q.state)) (λ q. weighed x.objective q.state (worth_in x q.state) (high q.state)) (last_found f) (last_found f) a
+    (weighed-under x low high (λ q i. later-under given adds l m h x b.state (rounds_after x.objective f i) q i)) (by-same (last_found f))
+
 level-under : (given : Builtins) (adds : BuiltinsOnlyAdd given) (l m : Level) → LevelBelow l m → (level : Strict) (b : Back) (t t' : Trace Point) → Under t t' →
     Under (level_trace given l level b t) (level_trace given m level b t')
 unfolding level_trace
@@ -229,6 +275,13 @@ level-under given adds l m h (number_level into n) b t t' a =
     let g : ℕ → Trace Point = λ k. one (with_slot (start_of m b) into (int (pos (n + k)))) in
     then-under given adds l m h b.frames (counted t f) (counted t' g)
     (by-counted PointBelow PointBelow t t' f g a (λ k. numbered-under l m h b into (n + k)))
+level-under given adds l m h (search_level x labelled f) b t t' a =
+    let u : Trace Point = round_trace given l x labelled t in
+    let u' : Trace Point = round_trace given m x labelled t' in
+    let k : State → Trace Point = λ r. continued given l b.frames (point l b.slots r) in
+    let k' : State → Trace Point = λ r. continued given m b.frames (point m b.slots r) in
+    by-then Same PointBelow (sought_from given l x f b u) (sought_from given m x f b u') k k' (sought-under given adds l m h x f b u u' (round-under given adds l m h x labelled t t' a))
+    (states-under k k' (λ r. continued-under given adds l m h b.frames (point l b.slots r) (point m b.slots r) (same_but_level h b.slots r)))
 
 handled-under : (given : Builtins) (adds : BuiltinsOnlyAdd given) (l m : Level) → LevelBelow l m → (handler : GoalTree) (b : Back) (raised : Tree) (o : Option State) →
     Under (handled_in b.state raised (λ r. meaning given handler (point l b.slots r)) o) (handled_in b.state raised (λ r. meaning given handler (point m b.slots r)) o)

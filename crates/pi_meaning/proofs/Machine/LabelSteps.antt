@@ -24,26 +24,26 @@ use Rattle.pi_settling.specs.Label.{labelled_by}
 use Rattle.pi_settling.specs.Choices.{Pending, pending, picked, Alternative, alternatives as alternatives_of, left_by, narrowed_to}
 use Rattle.pi_settling.proofs.LabelKeeps.{MayHave, all-have, picked-has}
 use Rattle.pi_meaning.specs.Shared.View.{View}
-use Rattle.pi_meaning.specs.Shared.Level.{Level, LevelBelow, Point, PointBelow, same_but_level, lower, ticked, or_called}
+use Rattle.pi_meaning.specs.Shared.Level.{Level, LevelBelow, Point, PointBelow, same_but_level, lower, ticked}
 use Rattle.pi_meaning.specs.Shared.Names.{is_later_predicate, is_call}
-use Rattle.pi_meaning.specs.Shared.Effects.{predicate_effect, is_effect_name}
+use Rattle.pi_meaning.specs.Shared.Effects.{predicate_effect}
 use Rattle.pi_meaning.specs.Shared.Calls.{unknown_name}
 use Rattle.pi_meaning.specs.Shared.Settle.{settlement, settled}
-use Rattle.pi_meaning.specs.Shared.Solve.{labelled_in, lower_in, solved_for, solve_trace}
+use Rattle.pi_meaning.specs.Shared.Solve.{labelled_in, lower_in, sought_in, solved_for, solve_trace}
 use Rattle.pi_meaning.specs.CoreMeaning.Builtins.{Builtins, BuiltinsOnlyAdd, predicate_by}
 use Rattle.pi_meaning.specs.CoreMeaning.Instances.{built_later, whole}
 use Rattle.pi_meaning.specs.CoreMeaning.Meaning.{Action, calling, meaning}
 use Rattle.pi_meaning.specs.CoreMeaning.Rules.{level_at}
 use Rattle.pi_meaning.specs.CoreMeaning.Run.{answered_with}
-use Rattle.pi_meaning.proofs.Shared.AskedAgain.{asked-again}
+use Rattle.pi_meaning.proofs.Shared.AskedAgain.{asked-again, labelled-flat}
 use Rattle.pi_meaning.proofs.Shared.CallLemmas.{built-later-adds, whole-adds}
-use Rattle.pi_meaning.proofs.Shared.EffectNames.{effects-listed, no-effect}
+use Rattle.pi_meaning.proofs.Shared.EffectNames.{effects-listed}
 use Rattle.pi_meaning.proofs.Shared.LevelLemmas.{quiet-keeps-depth}
 use Rattle.pi_meaning.proofs.CoreMeaning.RuleLemmas.{level-below}
 use Rattle.pi_meaning.specs.Machine.Configuration.{Frame, Back, alternatives_left, Entry, choice, going, failed, config, behind, in_places}
 use Rattle.pi_meaning.specs.Machine.Filled.{are_filled}
-use Rattle.pi_meaning.specs.Machine.Remaining.{point, continued, run_from, alternative_tried, alternatives_trace, choice_trace, around, now_trace, remaining_at}
-use Rattle.pi_meaning.specs.Machine.Step.{silently, Rest, with_rest, NameCall, name_call, later_alternatives, alternative_now, alternatives_step, Again, again_by, label_step, labels_step, solve_step}
+use Rattle.pi_meaning.specs.Machine.Remaining.{point, continued, run_from, alternative_tried, alternatives_trace, choice_trace, level_trace, around, now_trace, remaining_at}
+use Rattle.pi_meaning.specs.Machine.Step.{silently, back_to, search_of, search_step, Rest, with_rest, NameCall, name_call, later_alternatives, alternative_now, alternatives_step, Again, again_by, label_step, labels_step, solve_step}
 use Rattle.pi_meaning.specs.Machine.Shape.{IsBalanced}
 use Rattle.pi_meaning.specs.Machine.Laws.{Comes}
 use Rattle.pi_meaning.proofs.Machine.RuleForms.{then-same}
@@ -52,23 +52,11 @@ use Rattle.pi_meaning.proofs.Machine.GoalSteps.{Is, one-goes_on}
 use Rattle.pi_meaning.proofs.Machine.EvaluationLemmas.{arguments-again}
 use Rattle.pi_meaning.proofs.Machine.HigherLemmas.{Under, continued-under, alternatives-under}
 use Rattle.pi_meaning.proofs.Machine.CallSteps.{Told, tick-leads, name-ran}
-use Rattle.pi_meaning.proofs.Machine.NamesGiven.{does-later}
 use Rattle.pi_meaning.proofs.Machine.NamedRuns.{arguments-held, slot-ran}
 use Rattle.pi_meaning.proofs.Machine.LabelTraces.{behind_call, LabelsOn, alternatives-are, labelled-at}
+use Rattle.pi_meaning.proofs.Machine.SearchTraces.{IsLabelling, by-name, sought-is}
 
 -- ---- what a call does that labels
-
--- a name of a later stage that isn't a goal of constraints
-pub record IsLabelling (name : List ℕ) (k : ℕ) : Type 0 where
-  pub no_call : is_call name k ≡ false
-  pub no_effect : is_effect_name name k ≡ false
-  pub later : is_later_predicate name k ≡ true
-
-by-name : (v : View) (preds : List PredTree) (l : Level) (name : List ℕ) (ts : Trees) (s : State) → IsLabelling name (tree_count ts) → (a : Option Asked) → solve_asked name ts s ≡ a →
-    predicate_by (whole v built_later preds) l name ts s ≡ unwrap_or (option_map (solve_trace l s) a) (unknown_name name (tree_count ts))
-by-name v preds l name ts s is a asked =
-    ap (λ o. or_called o l name ts s) (does-later v preds l name ts s is.no_call (no-effect name ts s is.no_effect) is.later)
-    ∙ ap (λ (b : Option Asked). unwrap_or (option_map (solve_trace l s) b) (unknown_name name (tree_count ts))) asked
 
 labels-by-name : (v : View) (preds : List PredTree) (l : Level) (name : List ℕ) (ts : Trees) (s : State) → IsLabelling name (tree_count ts) → (o : Options) (items : List Item) →
     solve_asked name ts s ≡ Some (labels o items) → o.objective ≡ None → confined s items ≡ s → predicate_by (whole v built_later preds) l name ts s ≡ labelled_in o items l s
@@ -143,7 +131,7 @@ labels-on v preds d name all k o items p a is asked none pick goes from x = λ l
 -- ---- the step of a call
 
 -- what comes after the call, from an answer
-abbrev after_call : Builtins → Level → Places → GoalTrees → List Frame → State → Trace Point
+abbrev pub after_call : Builtins → Level → Places → GoalTrees → List Frame → State → Trace Point
 after_call given l slots gs k r = continued given l (behind gs k) (point l slots r)
 
 again-is : (v : View) (preds : List PredTree) (d : ℕ) (name : List ℕ) (args : List Tree) (gs : GoalTrees) (e : Places) (s : State) (k : List Frame) (es : List Entry)
@@ -197,14 +185,28 @@ label-is v preds d name args gs e s k es o items is asked none (Some p) pick =
     let all : EvaluatedAll = evaluated_all (trees_of args) e s in
     ap (λ t. around given l es t []) (again-is v preds d name args gs e s k es o items p is asked none pick (are_filled all.slots (trees_of args)) refl)
 
-labels-are : (v : View) (preds : List PredTree) (d : ℕ) (name : List ℕ) (args : List Tree) (gs : GoalTrees) (e : Places) (s : State) (k : List Frame) (es : List Entry) (o : Options) (items : List Item) →
+-- a search begins, whose variables are the call's
+search-is : (v : View) (preds : List PredTree) (d : ℕ) (name : List ℕ) (args : List Tree) (gs : GoalTrees) (e : Places) (s : State) (k : List Frame) (es : List Entry) (o : Options) (items : List Item) →
+    let given : Builtins = whole v built_later preds in
+    let l : Level = level_at given preds d in
+    let all : EvaluatedAll = evaluated_all (trees_of args) e s in
+    solve_asked name all.trees all.state ≡ Some (labels o items) → (w : Objective) → o.objective ≡ Some w →
+    Is given l es (then (sought_in o items w l all.state) (after_call given l all.slots gs k)) (search_step (search_of o w all.trees) (name_call name args all) (with_rest gs k es))
+unfolding around level_trace
+search-is v preds d name args gs e s k es o items asked w has =
+    let given : Builtins = whole v built_later preds in
+    let l : Level = level_at given preds d in
+    let all : EvaluatedAll = evaluated_all (trees_of args) e s in
+    ap (λ t. around given l es (then t (after_call given l all.slots gs k)) [])
+    (sought-is v preds d (search_of o w all.trees) items (back_to all.slots all.state (behind gs k)) (labelled-flat name all.trees all.state o w items asked has))
+
+pub labels-are : (v : View) (preds : List PredTree) (d : ℕ) (name : List ℕ) (args : List Tree) (gs : GoalTrees) (e : Places) (s : State) (k : List Frame) (es : List Entry) (o : Options) (items : List Item) →
     let given : Builtins = whole v built_later preds in
     let l : Level = level_at given preds d in
     let all : EvaluatedAll = evaluated_all (trees_of args) e s in
     IsLabelling name (tree_count all.trees) → solve_asked name all.trees all.state ≡ Some (labels o items) → (objective : Option Objective) → o.objective ≡ objective →
     Is given l es (then (solved_for objective o items l all.state) (after_call given l all.slots gs k)) (labels_step objective o items (name_call name args all) (with_rest gs k es))
-unfolding then now_trace
-labels-are v preds d name args gs e s k es o items is asked (Some objective) has = refl
+labels-are v preds d name args gs e s k es o items is asked (Some w) has = search-is v preds d name args gs e s k es o items asked w has
 labels-are v preds d name args gs e s k es o items is asked None has =
     let all : EvaluatedAll = evaluated_all (trees_of args) e s in
     label-is v preds d name args gs e s k es o items is asked has (picked (pending (confined all.state items) items) o.variable) refl

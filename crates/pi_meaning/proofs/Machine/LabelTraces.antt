@@ -30,7 +30,7 @@ unfolding then
 left-follows None f g h = refl
 left-follows (Some q) f g h = ap (λ t. alt t done) (h q refl)
 
-settled-follows : {A : Type 0} (s r : State) (f g : State → Trace A) → ((q : State) → (settlement s r).left ≡ Some q → f q ≡ g q) → then (settled s r) f ≡ then (settled s r) g
+pub settled-follows : {A : Type 0} (s r : State) (f g : State → Trace A) → ((q : State) → (settlement s r).left ≡ Some q → f q ≡ g q) → then (settled s r) f ≡ then (settled s r) g
 unfolding settled
 settled-follows s r f g h =
     then-loaded (settlement s r).load (answer_with (settlement s r).left) f

@@ -45,6 +45,7 @@ use Rattle.pi_meaning.proofs.Machine.CallSteps.{tick-comes, predicate-comes, fun
 use Rattle.pi_meaning.proofs.Machine.NamesGiven.{does-effect, does-nothing, gives-value, gives-resource, gives-later, gives-nothing}
 use Rattle.pi_meaning.proofs.Machine.TermSteps.{call-comes}
 use Rattle.pi_meaning.proofs.Machine.LabelSteps.{solve-comes, alternatives-come}
+use Rattle.pi_meaning.proofs.Machine.SearchSteps.{search-answers}
 use Rattle.pi_effects.specs.Effect.{FunctionEffect, Effect}
 
 -- what goals run with
@@ -282,7 +283,7 @@ answer-comes v preds names e s es b (strict_open above level back below) h =
     silent v preds names (going no_goals e s []) es (strict_step level e s above back below)
     (λ d. let l : Level = level_at (language v preds) preds d in
     ap (λ t. around (language v preds) l es t []) (answer-is (language v preds) preds l (calls-are (language v preds) preds d) e s)
-    ∙ (ap (λ xs. around (language v preds) l xs (one (point l e s)) []) h.0 ∙ strict-answer (language v preds) l level e s above (h.1 b) back below))
+    ∙ (ap (λ xs. around (language v preds) l xs (one (point l e s)) []) h.0 ∙ strict-answer (language v preds) l (search-answers v preds d) level e s above (h.1 b) back below))
 answer-comes v preds names e s es b (catch_open above ball handler back below) h =
     silent v preds names (going no_goals e s []) es (config (going no_goals e s back.frames) (leave above ball handler back below))
     (λ d. let l : Level = level_at (language v preds) preds d in

@@ -1,6 +1,6 @@
 -- Lemmas on the stack: what reaches a level, what passes all of it.
 use Rattle.std.proofs.Common.{◌≡◌, ℕ, zero, suc, List, [], ◌∷◌, ◌++◌, length, refl, ap, ◌∙◌}
-use Rattle.std.specs.Prelude.{⊤}
+use Rattle.std.specs.Prelude.{true, false, ⊤}
 use Rattle.pi_terms.specs.Tree.{Tree}
 use Rattle.pi_core.specs.GoalTree.{GoalTree}
 use Rattle.pi_traces.specs.Trace.{Trace, note, Note, done, alt, then, first}
@@ -8,7 +8,7 @@ use Rattle.pi_traces.specs.Control.{negated, chosen, collected, counted, caught}
 use Rattle.pi_meaning.specs.CoreMeaning.Builtins.{Builtins}
 use Rattle.pi_meaning.specs.Shared.Level.{Level, Point}
 use Rattle.pi_traces.proofs.TraceLemmas.{alt-assoc}
-use Rattle.pi_meaning.specs.Machine.Configuration.{Back, Choice, Strict, once_level, not_level, if_level, guard_level, value_level, list_level, number_level, Entry, choice, strict, catch_level, left}
+use Rattle.pi_meaning.specs.Machine.Configuration.{Back, Choice, Strict, once_level, not_level, if_level, guard_level, value_level, list_level, number_level, search_level, Entry, choice, strict, catch_level, left}
 use Rattle.pi_meaning.specs.Machine.Remaining.{choice_trace, level_trace, catch_trace, around}
 use Rattle.pi_meaning.specs.Machine.Step.{Open, none_open, strict_open, catch_open, beneath, newest_open}
 use Rattle.pi_meaning.specs.Machine.Shape.{IsBalanced, open_level}
@@ -69,6 +69,8 @@ level-note given l (guard_level call c cs) b n t = refl
 level-note given l (value_level call into) b n t = refl
 level-note given l (list_level k into got) b n t = refl
 level-note given l (number_level into k) b n t = refl
+level-note given l (search_level x true f) b n t = refl
+level-note given l (search_level x false f) b n t = refl
 
 catch-note : (given : Builtins) (l : Level) (ball : Tree) (handler : GoalTree) (b : Back) (n : Note) (t : Trace Point) → catch_trace given l ball handler b (note n t) ≡ note n (catch_trace given l ball handler b t)
 unfolding catch_trace then caught

@@ -1,6 +1,6 @@
 -- The weight of a configuration falls at each step that counts no Tick: each kind of step.
-use Rattle.std.proofs.Common.{◌≡◌, ℕ, zero, suc, ◌+◌, ◌≤◌, ◌<◌, List, [], ◌∷◌, ◌++◌, length, refl, ap, sym, subst, ◌∙◌, arith}
-use Rattle.std.specs.Prelude.{Bool, true, false, Option, Some, None, is_some, cond, codes, nat_lt}
+use Rattle.std.proofs.Common.{◌≡◌, ℕ, zero, suc, ◌+◌, ◌*◌, ◌^◌, ◌≤◌, ◌<◌, List, [], ◌∷◌, ◌++◌, length, refl, ap, sym, subst, ◌∙◌, arith}
+use Rattle.std.specs.Prelude.{Bool, true, false, ℤ, Option, Some, None, Result, Ok, Err, is_some, cond, codes, nat_lt}
 use Rattle.pi_terms.specs.Tree.{Tree, atom, comp, cells, tree_count, trees_of, most_cells}
 use Rattle.pi_terms.specs.Places.{Places}
 use Rattle.pi_constraints.specs.State.{State, next}
@@ -15,7 +15,7 @@ use Rattle.pi_constraints.specs.Evaluation.{EvaluatedAll, evaluated_all, with_ne
 use Rattle.pi_meaning.specs.CoreMeaning.Meaning.{slot_value}
 use Rattle.pi_meaning.specs.CoreMeaning.Run.{Solution}
 use Rattle.pi_core.specs.declared.core_program.NameSlot.{NameSlot}
-use Rattle.pi_meaning.specs.Machine.Configuration.{Frame, Back, Choice, rules_left, facts_left, branches_left, alternatives_left, Strict, once_level, not_level, if_level, guard_level, value_level, list_level, number_level, Entry, choice, strict, catch_level, left, Now, going, settling, failed, raising, Config, config, behind, returning, telling}
+use Rattle.pi_meaning.specs.Machine.Configuration.{Frame, Back, Choice, rules_left, facts_left, branches_left, alternatives_left, Search, Found, Strict, once_level, not_level, if_level, guard_level, value_level, list_level, number_level, search_level, Entry, choice, strict, catch_level, left, Now, going, settling, failed, raising, Config, config, behind, returning, telling}
 use Rattle.pi_settling.specs.Settle.{Settlement}
 use Rattle.pi_constraints.specs.declared.constraint.Item.{Item}
 use Rattle.pi_settling.specs.Options.{Options, Objective, ValueWord}
@@ -23,10 +23,15 @@ use Rattle.pi_settling.specs.Asked.{Asked, labels, raises}
 use Rattle.pi_settling.specs.SolveCalls.{solve_asked}
 use Rattle.pi_settling.specs.Confined.{confined}
 use Rattle.pi_settling.specs.Choices.{Pending, pending, picked}
+use Rattle.pi_settling.specs.Reading.{Operand, reads, refuses}
+use Rattle.pi_settling.specs.Read.{operand_in}
+use Rattle.pi_settling.specs.Rounds.{count_better}
+use Rattle.pi_prop_spec.specs.Steps.{Refusal}
+use Rattle.pi_prop_spec.specs.Postings.{Posting, posting_in}
 use Rattle.pi_meaning.specs.Shared.Settle.{settlement}
-use Rattle.pi_meaning.specs.Machine.Step.{back_to, branch, try_clauses, call_step, predicate_step, effect_step, function_step, goal_step, Open, none_open, strict_open, catch_open, newest_open, strict_step, leave, fits, told_step, answer_step, choice_step, end_step, fail_step, handler_step, below_left, raise_step, now_step, step, done_now, given_now, value_step, later_step, name_step, later_value, other_value, resource_effect, silently, Rest, with_rest, NameCall, name_call, label_step, labels_step, solve_step, left_now, loaded_step, settle_step}
+use Rattle.pi_meaning.specs.Machine.Step.{back_to, branch, try_clauses, call_step, predicate_step, effect_step, function_step, goal_step, Open, none_open, strict_open, catch_open, newest_open, strict_step, leave, fits, told_step, answer_step, choice_step, end_step, fail_step, handler_step, below_left, raise_step, now_step, step, done_now, given_now, value_step, later_step, name_step, later_value, other_value, resource_effect, silently, Rest, with_rest, NameCall, name_call, label_step, search_args, round_call, begun_now, bettered_now, better_goal, search_of, next_round, rounds_after, weighed_step, worth_in, labels_step, solve_step, round_step, left_now, loaded_step, settle_step}
 use Rattle.pi_meaning.specs.Machine.Shape.{IsBalanced, IsGood}
-use Rattle.pi_meaning.specs.Machine.Weight.{CallWeights, goal_weight, goals_weight, branches_weight, going_weight, frames_weight, strict_answer_weight, answer_weight, choice_weight, strict_weight, stack_weight, now_weight, weight_by, weight, GetsLighter, call_weight, clauses_weight, inside_weight, program_calls}
+use Rattle.pi_meaning.specs.Machine.Weight.{CallWeights, goal_weight, goals_weight, branches_weight, going_weight, frames_weight, strict_answer_weight, answer_weight, choice_weight, strict_weight, stack_weight, now_weight, weight_by, weight, GetsLighter, rounds_left, search_weight, search_room, call_weight, clauses_weight, inside_weight, program_calls}
 use Rattle.pi_meaning.proofs.Machine.StackLemmas.{IsClosed, IsFound, newest-found}
 use Rattle.pi_meaning.proofs.Machine.EndSteps.{IsMatched, left-matched}
 use Rattle.pi_meaning.proofs.Machine.NamedWeights.{call-heavy, given-many, returning-weight, first-lighter}
@@ -86,32 +91,51 @@ unfolding weight_by now_weight stack_weight choice_weight answer_weight
 label-lighter calls c w s r None = omega arith
 label-lighter calls c w s r (Some p) = omega arith
 
+-- the first round posts
+begun-lighter : (calls : CallWeights) (x : Search) (s : State) (p : Operand) (es : List Entry) (b : Back) →
+    now_weight calls (begun_now x s p) (answer_weight calls 0 (strict (search_level x false None) b ∷ es)) ≤ suc (search_weight false None)
+unfolding now_weight answer_weight strict_answer_weight frames_weight
+begun-lighter calls x s (reads r sum) es b = omega arith
+begun-lighter calls x s (refuses ball) es b = omega arith
+
 labels-lighter : (calls : CallWeights) (objective : Option Objective) (o : Options) (items : List Item) (c : NameCall) (r : Rest) →
-    weight_by calls (labels_step objective o items c r) ≤ suc (going_weight calls r.goals (frames_weight calls r.frames (answer_weight calls 0 r.stack))) + stack_weight calls r.stack
-unfolding weight_by now_weight
-labels-lighter calls (Some objective) o items c r = omega arith
+    weight_by calls (labels_step objective o items c r) ≤ suc (suc (frames_weight calls (behind r.goals r.frames) (answer_weight calls 0 r.stack)) + search_weight false None) + stack_weight calls r.stack
+unfolding weight_by stack_weight strict_weight
+labels-lighter calls (Some objective) o items c r =
+    let x : Search = search_of o objective c.all.trees in
+    let h : _ = begun-lighter calls x c.all.state (operand_in objective.expression c.all.state) r.stack (back_to c.all.slots c.all.state (behind r.goals r.frames)) in
+    omega (arith, h)
 labels-lighter calls None o items c r =
-    let s : State = confined c.all.state items in label-lighter calls c o.value s r (picked (pending s items) o.variable)
+    let s : State = confined c.all.state items in
+    let h : _ = label-lighter calls c o.value s r (picked (pending s items) o.variable) in
+    let same : _ = behind-weight calls r.goals r.frames (answer_weight calls 0 r.stack) in
+    let below : _ = going-below calls r.goals (frames_weight calls r.frames (answer_weight calls 0 r.stack)) in
+    omega (arith, h, same, below)
 
 solve-lighter : (calls : CallWeights) (a : Option Asked) (c : NameCall) (r : Rest) →
-    weight_by calls (solve_step a c r) ≤ suc (going_weight calls r.goals (frames_weight calls r.frames (answer_weight calls 0 r.stack))) + stack_weight calls r.stack
+    weight_by calls (solve_step a c r) ≤ suc (suc (frames_weight calls (behind r.goals r.frames) (answer_weight calls 0 r.stack)) + search_weight false None) + stack_weight calls r.stack
 unfolding weight_by now_weight
 solve-lighter calls None c r = omega arith
 solve-lighter calls (Some (raises ball)) c r = omega arith
 solve-lighter calls (Some (labels o items)) c r = labels-lighter calls o.objective o items c r
 
+room-is : search_room ≡ search_weight false None + 4
+unfolding search_room
+room-is = refl
+
+-- what a call weighs at least by its name
+abbrev CallSearches : List PredTree → List Frame → List Entry → Config → Type 0
+CallSearches preds k es c =
+    let calls : CallWeights = program_calls preds in
+    suc (suc (suc (frames_weight calls k (answer_weight calls 0 es)))) + search_room + stack_weight calls es ≤ weight preds c
+
 later-lighter : (later : Bool) (preds : List PredTree) (name : List ℕ) (args : List Tree) (all : EvaluatedAll) (gs : GoalTrees) (k : List Frame) (es : List Entry) (c : Config) →
     is_later_predicate name (tree_count all.trees) ≡ later → is_call name (tree_count all.trees) ≡ false → is_effect_name name (tree_count all.trees) ≡ false →
-    CallWeighs preds false name all (behind gs k) es c → GetsLighter preds c (later_step later preds (name_call name args all) (with_rest gs k es))
-unfolding weight_by now_weight
-later-lighter true preds name args all gs k es c is no_call built h =
-    let calls : CallWeights = program_calls preds in
-    let a : ℕ = answer_weight calls 0 es in
-    let same : frames_weight calls (behind gs k) a ≡ goals_weight calls gs (frames_weight calls k a) = behind-weight calls gs k a in
-    let below : going_weight calls gs (frames_weight calls k a) ≤ goals_weight calls gs (frames_weight calls k a) = going-below calls gs (frames_weight calls k a) in
-    let light : _ = solve-lighter calls (solve_asked name all.trees all.state) (name_call name args all) (with_rest gs k es) in
-    omega arith
-later-lighter false preds name args all gs k es c is no_call built h =
+    CallWeighs preds false name all (behind gs k) es c → CallSearches preds (behind gs k) es c → GetsLighter preds c (later_step later preds (name_call name args all) (with_rest gs k es))
+later-lighter true preds name args all gs k es c is no_call built h room =
+    let light : _ = solve-lighter (program_calls preds) (solve_asked name all.trees all.state) (name_call name args all) (with_rest gs k es) in
+    omega (arith, light, room, room-is)
+later-lighter false preds name args all gs k es c is no_call built h room =
     predicate-lighter preds (find_pred false name (tree_count all.trees) preds) name all (behind gs k) es c refl
     (none-of (is_call name (tree_count all.trees)) (is_predicate name (tree_count all.trees)) (is_later_predicate name (tree_count all.trees)) no_call (no-predicate name (tree_count all.trees) built) is) h
 
@@ -130,6 +154,7 @@ effect-step-lighter v None preds name args e s gs k es is other =
     later-lighter (is_later_predicate name (tree_count all.trees)) preds name args all gs k es (config (going (goal (call name args) gs) e s k) es) refl other
     (sym (effects-listed name all.trees all.state) ∙ ap is_some is)
     (subst (λ x. suc (suc x) + calls false name (tree_count all.trees) x + stack_weight calls es ≤ weight preds (config (going (goal (call name args) gs) e s k) es)) (sym (behind-weight calls gs k a)) (omega arith))
+    (subst (λ x. suc (suc (suc x)) + search_room + stack_weight calls es ≤ weight preds (config (going (goal (call name args) gs) e s k) es)) (sym (behind-weight calls gs k a)) (omega arith))
 effect-step-lighter v (Some d) preds name args e s gs k es is other =
     let all : EvaluatedAll = evaluated_all (trees_of args) e s in
     let calls : CallWeights = program_calls preds in
@@ -149,7 +174,7 @@ name-lighter true v preds name args e s gs k es is =
     let calls : CallWeights = program_calls preds in
     let a : ℕ = answer_weight calls 0 es in
     let r : ℕ = goals_weight calls gs (frames_weight calls k a) in
-    let heavy : call_weight (is_call name (length args)) r ≡ suc (suc (suc (suc (suc r)))) = ap (λ n. call_weight (is_call name n) r) (sym (given-many args e s)) ∙ ap (λ b. call_weight b r) is in
+    let heavy : call_weight (is_call name (length args)) r ≡ suc (suc (suc (suc (suc r)))) + search_room = ap (λ n. call_weight (is_call name n) r) (sym (given-many args e s)) ∙ ap (λ b. call_weight b r) is in
     let light : _ = first-lighter preds all.trees all.state (returning all.slots (behind gs k)) a in
     let back : _ = returning-weight calls all.slots (behind gs k) a in
     let same : frames_weight calls (behind gs k) a ≡ r = behind-weight calls gs k a in
@@ -259,6 +284,47 @@ unfolding now_weight
 raise-or-fail calls true t a = omega arith
 raise-or-fail calls false t a = omega arith
 
+-- what a round labels
+round-lighter : (calls : CallWeights) (x : Search) (f : Option Found) (s : State) (a : Option Asked) (b : Back) (below : List Entry) →
+    weight_by calls (round_step a (round_call x s) (with_rest no_goals [] (strict (search_level x true f) b ∷ below)))
+    ≤ suc (search_weight true f) + (suc (frames_weight calls b.frames (answer_weight calls 0 below)) + stack_weight calls below)
+unfolding weight_by now_weight stack_weight strict_weight answer_weight strict_answer_weight frames_weight goals_weight
+round-lighter calls x f s None b below = omega arith
+round-lighter calls x f s (Some (raises ball)) b below = omega arith
+round-lighter calls x f s (Some (labels o items)) b below =
+    let q : State = confined s items in
+    label-lighter calls (round_call x s) o.value q (with_rest no_goals [] (strict (search_level x true f) b ∷ below)) (picked (pending q items) o.variable)
+
+-- the next round posts
+bettered-lighter : (calls : CallWeights) (x : Search) (s : State) (n : ℕ) (q : State) (p : Result Posting Refusal) (b : Back) (below : List Entry) →
+    let f : Option Found = Some (record { state = q; left = n }) in
+    now_weight calls (bettered_now x s p) (answer_weight calls 0 (strict (search_level x false f) b ∷ below)) ≤ suc (search_weight false f)
+unfolding now_weight answer_weight strict_answer_weight frames_weight
+bettered-lighter calls x s n q (Ok p) b below = omega arith
+bettered-lighter calls x s n q (Err r) b below = omega arith
+
+next-lighter : (calls : CallWeights) (x : Search) (n m : ℕ) → n ≤ m → (q : State) (i : ℤ) (b : Back) (below : List Entry) →
+    weight_by calls (next_round n x q i b below) < (4 * m + 3) + (suc (frames_weight calls b.frames (answer_weight calls 0 below)) + stack_weight calls below)
+unfolding next_round weight_by now_weight stack_weight strict_weight goals_weight
+next-lighter calls x zero m h q i b below = omega arith
+next-lighter calls x (suc n) m h q i b below =
+    let k : _ = bettered-lighter calls x b.state n q (posting_in b.state (better_goal x.objective i)) b below in omega (arith, h, k)
+
+few-better : (greatest : Bool) (i : ℤ) → count_better greatest i ≤ 2 ^ 128
+few-better false i = omega arith
+few-better true i = omega arith
+
+few-rounds : (w : Objective) (f : Option Found) (i : ℤ) → rounds_after w f i ≤ rounds_left f
+few-rounds w None i = few-better w.greatest i
+few-rounds w (Some f) i = omega arith
+
+-- an answer of a round is weighed
+weighed-lighter : (calls : CallWeights) (x : Search) (f : Option Found) (q : State) (o : Option ℤ) (b : Back) (below : List Entry) →
+    weight_by calls (weighed_step x f q o b below) < search_weight true f + (suc (frames_weight calls b.frames (answer_weight calls 0 below)) + stack_weight calls below)
+unfolding weight_by now_weight
+weighed-lighter calls x f q None b below = omega arith
+weighed-lighter calls x f q (Some i) b below = next-lighter calls x (rounds_after x.objective f i) (rounds_left f) (few-rounds x.objective f i) q i b below
+
 strict-answer-lighter : (calls : CallWeights) (level : Strict) (e : Places) (s : State) (above : List Entry) (b : Back) (below : List Entry) → IsClosed 0 above →
     Lighter calls (strict_step level e s above b below) (answer_weight calls 0 (above ++ strict level b ∷ below) + stack_weight calls (above ++ strict level b ∷ below))
 unfolding strict_step weight_by now_weight stack_weight answer_weight strict_answer_weight strict_weight goals_weight
@@ -287,6 +353,14 @@ strict-answer-lighter calls (list_level slot into got) e s above b below h =
 strict-answer-lighter calls (number_level into n) e s above b below h =
     let c : _ = closed-answer calls 0 above (strict (number_level into n) b ∷ below) h in
     let m : _ = (same-weight calls above (strict (number_level into n) b ∷ below) (strict (number_level into (suc n)) b ∷ below) (number-same calls into n (suc n) b below)).1 in omega arith
+strict-answer-lighter calls (search_level x false f) e s above b below h =
+    let c : _ = closed-answer calls 0 above (strict (search_level x false f) b ∷ below) h in
+    let m : _ = below-weight calls above (strict (search_level x false f) b ∷ below) in
+    let k : _ = round-lighter calls x f s (solve_asked (codes "solve") (search_args x) s) b below in omega arith
+strict-answer-lighter calls (search_level x true f) e s above b below h =
+    let c : _ = closed-answer calls 0 above (strict (search_level x true f) b ∷ below) h in
+    let m : _ = below-weight calls above (strict (search_level x true f) b ∷ below) in
+    let k : _ = weighed-lighter calls x f s (worth_in x s) b below in omega arith
 
 catch-answer-lighter : (calls : CallWeights) (e : Places) (s : State) (above : List Entry) (ball : Tree) (handler : GoalTree) (b : Back) (below : List Entry) → IsClosed 0 above →
     Lighter calls (config (going no_goals e s b.frames) (leave above ball handler b below)) (answer_weight calls 0 (above ++ catch_level ball handler b ∷ below) + stack_weight calls (above ++ catch_level ball handler b ∷ below))
@@ -342,6 +416,8 @@ end-lighter calls (guard_level called c cs) b es = let h : _ = rules-lighter cal
 end-lighter calls (value_level called into) b es = omega arith
 end-lighter calls (list_level slot into got) b es = omega arith
 end-lighter calls (number_level into n) b es = omega arith
+end-lighter calls (search_level x labelled None) b es = omega arith
+end-lighter calls (search_level x labelled (Some f)) b es = omega arith
 
 fail-lighter : (preds : List PredTree) (es : List Entry) → GetsLighter preds (config failed es) (fail_step es)
 unfolding fail_step weight_by now_weight stack_weight
@@ -367,6 +443,7 @@ strict-weighs calls (guard_level called c cs) r a = omega arith
 strict-weighs calls (value_level called into) r a = omega arith
 strict-weighs calls (list_level slot into got) r a = omega arith
 strict-weighs calls (number_level into n) r a = omega arith
+strict-weighs calls (search_level x labelled f) r a = omega arith
 
 handler-lighter : (calls : CallWeights) (handler : GoalTree) (b : Back) (raised : Tree) (o : Option State) (a : ℕ) →
     now_weight calls (handler_step handler b raised o) a < suc (suc (goal_weight calls handler (frames_weight calls b.frames a)))

@@ -14,10 +14,10 @@ use Rattle.pi_settling.specs.Asked.{Flat, joined, flat_all, flat_parts, flat_var
 use Rattle.pi_meaning.proofs.Shared.BoundIntegers.{IsItemNow, BindsIntegers, binds-kept, binds-items}
 
 -- the first bindings, of which the second have those and more variables bound to integers
-abbrev KeepsAll : Bindings → Bindings → Type 0
+abbrev pub KeepsAll : Bindings → Bindings → Type 0
 KeepsAll b c = (n : ℕ) (t : Tree) → held b n ≡ Some t → held c n ≡ Some t
 
-abbrev PutsItems : Bindings → Bindings → Type 0
+abbrev pub PutsItems : Bindings → Bindings → Type 0
 PutsItems b c = (n : ℕ) → held b n ≡ None → IsItemNow (held c n)
 
 -- ---- what a term is followed to
@@ -35,12 +35,12 @@ still-itself (int i) = refl
 still-itself (atom name) = refl
 still-itself (comp name ts) = refl
 
-followed-integer : (k : ℕ) (b : Bindings) (i : ℤ) → followed_for k b (int i) ≡ int i
+pub followed-integer : (k : ℕ) (b : Bindings) (i : ℤ) → followed_for k b (int i) ≡ int i
 unfolding followed_for
 followed-integer zero b i = refl
 followed-integer (suc k) b i = refl
 
-followed-unbound : (k : ℕ) (b : Bindings) (n : ℕ) → held b n ≡ None → followed_for k b (var n) ≡ var n
+pub followed-unbound : (k : ℕ) (b : Bindings) (n : ℕ) → held b n ≡ None → followed_for k b (var n) ≡ var n
 unfolding followed_for
 followed-unbound zero b n is = refl
 followed-unbound (suc k) b n is = ap (λ (o : Option Tree). followed_for k b (unwrap_or o (var n))) is ∙ followed-unbound k b n is
@@ -50,7 +50,7 @@ unbound-still : (k : ℕ) (c : Bindings) (n : ℕ) (o : Option Tree) → held c 
 unbound-still k c n o at (inl is) = inl (ap (λ (p : Option Tree). followed_for k c (unwrap_or p (var n))) is ∙ followed-unbound k c n (at ∙ is))
 unbound-still k c n o at (inr (i, is)) = inr (i, ap (λ (p : Option Tree). followed_for k c (unwrap_or p (var n))) is ∙ followed-integer k c i)
 
-for-still : (k : ℕ) (b c : Bindings) (t : Tree) → KeepsAll b c → PutsItems b c → IsStill (followed_for k b t) (followed_for k c t)
+pub for-still : (k : ℕ) (b c : Bindings) (t : Tree) → KeepsAll b c → PutsItems b c → IsStill (followed_for k b t) (followed_for k c t)
 unfolding followed_for
 for-still zero b c t kept items = still-itself t
 for-still (suc k) b c (var n) kept items =
@@ -156,6 +156,10 @@ unfolding rounds
 rounds-have zero b c t u kept items h = h
 rounds-have (suc k) b c t u kept items h = rounds-have k b c (replaced_once b t) (replaced_once c u) kept items (has-once b c t u kept items h)
 
+-- so often replaced, a term has as many cells
+pub rounds-cells : (k : ℕ) (b c : Bindings) (t : Tree) → KeepsAll b c → PutsItems b c → cells (rounds k c t) ≡ cells (rounds k b t)
+rounds-cells k b c t kept items = has-cells b (rounds k b t) (rounds k c t) (rounds-have k b c t t kept items (has-itself b t))
+
 pub value-cells : (s r : State) → BindsIntegers s r → (t : Tree) → cells (value (bindings r) t) ≡ cells (value (bindings s) t)
 unfolding value
 value-cells s r h t =
@@ -163,7 +167,7 @@ value-cells s r h t =
     let c : Bindings = bindings r in
     let many : length c ≡ length b = as_many r ∙ (h.count ∙ sym (as_many s)) in
     ap (λ (k : ℕ). cells (rounds k c t)) many
-    ∙ has-cells b (rounds (length b) b t) (rounds (length b) c t) (rounds-have (length b) b c t t (binds-kept s r h) (binds-items s r h) (has-itself b t))
+    ∙ rounds-cells (length b) b c t (binds-kept s r h) (binds-items s r h)
 
 -- ---- items of lists and arrays
 

@@ -133,7 +133,7 @@ follows-confined s [] = follows-itself s
 follows-confined s (x ∷ xs) =
     follows-then s (confined_at s (root_item s x)) (confined (confined_at s (root_item s x)) xs) (follows-confined_at s (root_item s x)) (follows-confined (confined_at s (root_item s x)) xs)
 
-follows-posting : (s : State) (p : Posting) → Follows s (posted_in s p)
+pub follows-posting : (s : State) (p : Posting) → Follows s (posted_in s p)
 follows-posting s p =
     let made : State = with_new_variables p.fresh s in
     let posted : State = with_constraints p.list made in

@@ -5,6 +5,7 @@ use Rattle.pi_terms.specs.Tree.{Tree, Trees, no_trees, tree}
 use Rattle.pi_terms.specs.Places.{Places}
 use Rattle.pi_constraints.specs.State.{State}
 use Rattle.pi_settling.specs.Choices.{Pending, Alternative}
+use Rattle.pi_settling.specs.Options.{Options, Objective}
 use Rattle.pi_core.specs.GoalTree.{GoalTree, GoalTrees, no_goals, goal}
 use Rattle.pi_core.specs.CoreTree.{ClauseTree}
 
@@ -35,9 +36,21 @@ pub data Choice : Type 0 where
   branches_left : GoalTrees → Choice
   alternatives_left : List ℕ → List Tree → Pending → List Alternative → Choice
 
+-- a search of `solve` for the best answer: the options, what is wanted, and the variables as they are written
+pub record Search : Type 0 where
+  pub options : Options
+  pub objective : Objective
+  pub vars : Tree
+
+-- the answer that a search found last, and how many rounds may follow the present one
+pub record Found : Type 0 where
+  pub state : State
+  pub left : ℕ
+
 -- a level of which no exception is caught: `once`; `not`; `if` with both goals; the guard of a rule, with the rules behind
 -- it; a function call, as a term, and the slot for its value; `find_all`, by the slot that is collected, the slot for the
--- list and the values so far; `count_all`, by the slot for the number and the number so far
+-- list and the values so far; `count_all`, by the slot for the number and the number so far; a round of a
+-- search, whether it labels already or what it posted is settled first, and the answer that was found last
 pub data Strict : Type 0 where
   once_level : Strict
   not_level : Strict
@@ -46,6 +59,7 @@ pub data Strict : Type 0 where
   value_level : Tree → ℕ → Strict
   list_level : ℕ → ℕ → List Tree → Strict
   number_level : ℕ → ℕ → Strict
+  search_level : Search → Bool → Option Found → Strict
 
 -- an entry: a choice; a level; a `catch`, with the term that it catches and its handler; the mark that the newest `catch`
 -- below it was left by an answer and keeps its choices

@@ -1,5 +1,5 @@
 -- What the machine's steps are to what remains.
-use Rattle.std.specs.Prelude.{◌≡◌, ℕ, suc, false, List, [], ⊤}
+use Rattle.std.specs.Prelude.{◌≡◌, ℕ, suc, Bool, false, List, [], Option, ⊤}
 use Rattle.pi_terms.specs.Tree.{Tree}
 use Rattle.pi_terms.specs.Places.{Places}
 use Rattle.pi_settling.specs.Choices.{Pending}
@@ -10,9 +10,9 @@ use Rattle.pi_traces.specs.Trace.{end, note, ans, Tick, Load, Out}
 use Rattle.pi_traces.specs.Depth.{Below}
 use Rattle.pi_meaning.specs.Shared.View.{View}
 use Rattle.pi_core.specs.declared.core_program.NameSlot.{NameSlot}
-use Rattle.pi_meaning.specs.Machine.Configuration.{Back, Called, once_level, not_level, if_level, guard_level, value_level, Entry, Config}
+use Rattle.pi_meaning.specs.Machine.Configuration.{Back, Called, Search, Found, once_level, not_level, if_level, guard_level, value_level, search_level, Entry, Config}
 use Rattle.pi_meaning.specs.Machine.Remaining.{remaining}
-use Rattle.pi_meaning.specs.Machine.Step.{Outcome, silently, with_tick, quietly, deeper, loading, writing, answering, ending, branch, later_alternatives, strict_step, leave, step}
+use Rattle.pi_meaning.specs.Machine.Step.{Outcome, silently, with_tick, quietly, deeper, loading, writing, answering, ending, branch, later_alternatives, strict_step, end_step, leave, step}
 use Rattle.pi_meaning.specs.Machine.Shape.{IsGood}
 use Rattle.pi_meaning.specs.Machine.Built.{AreOfRules}
 use Rattle.pi_meaning.specs.Machine.Weight.{GetsLighter}
@@ -51,7 +51,7 @@ abbrev pub StepsGetLighter : Type 0
 StepsGetLighter = (v : View) (preds : List PredTree) (names : List NameSlot) (c : Config) → IsGood c → GetsLighter preds c (step v preds names c)
 
 -- A level that is left by an answer is gone, with all that lay above it; so is a `catch` without choices in it, and the
--- call of a rule that leaves no others. What takes the last branch, or the last alternative of a labelling, keeps no choice.
+-- call of a rule that leaves no others. So is a search that has ended. What takes the last branch, or the last alternative of a labelling, keeps no choice.
 pub record LeaveNothing (e : Places) (s : State) (above : List Entry) (b : Back) (below : List Entry) : Type 0 where
   pub once : (strict_step once_level e s above b below).stack ≡ below
   pub negation : (strict_step not_level e s above b below).stack ≡ below
@@ -62,6 +62,7 @@ pub record LeaveNothing (e : Places) (s : State) (above : List Entry) (b : Back)
   pub last_rule : (called : Called) (c : ClauseTree) → (strict_step (guard_level called c []) e s above b below).stack ≡ below
   pub caught : (ball : Tree) (handler : GoalTree) → leave [] ball handler b below ≡ below
   pub last_branch : (g : GoalTree) → (branch (goal g no_goals) b below).stack ≡ below
+  pub search : (x : Search) (labelled : Bool) (f : Option Found) → (end_step (search_level x labelled f) b below).stack ≡ below
   pub last_alternative : (name : List ℕ) (args : List Tree) (p : Pending) → later_alternatives name args p [] b below ≡ below
 
 abbrev pub LevelsLeaveNothing : Type 0

@@ -1,6 +1,6 @@
 -- What remains of a run: the trace of what runs, and around it what the entries of the stack make of it, from the newest
 -- outwards. All goals that the machine still has to run do so at one level.
-use Rattle.std.specs.Prelude.{ℕ, ◌+◌, pos, List, [], ◌∷◌, ◌++◌, Option, Some, None, codes, slice_set}
+use Rattle.std.specs.Prelude.{ℕ, zero, suc, ◌+◌, ℤ, pos, Bool, true, false, List, [], ◌∷◌, ◌++◌, Option, Some, None, codes, slice_set}
 use Rattle.pi_terms.specs.Tree.{Tree, Trees, int}
 use Rattle.pi_terms.specs.Places.{Places, held}
 use Rattle.pi_constraints.specs.State.{State}
@@ -19,8 +19,11 @@ use Rattle.pi_meaning.specs.CoreMeaning.Facts.{facts}
 use Rattle.pi_meaning.specs.CoreMeaning.Rules.{chosen_rule, rules, value_at, level_at, rules_by}
 use Rattle.pi_meaning.specs.CoreMeaning.Run.{Solution, answered_with}
 use Rattle.pi_core.specs.declared.core_program.NameSlot.{NameSlot}
-use Rattle.pi_meaning.specs.Machine.Configuration.{Frame, more, return, give, Back, Called, Choice, rules_left, facts_left, branches_left, alternatives_left, Strict, once_level, not_level, if_level, guard_level, value_level, list_level, number_level, Entry, choice, strict, catch_level, left, Now, going, settling, telling, failed, raising, Config, after_body}
+use Rattle.pi_meaning.specs.Machine.Configuration.{Frame, more, return, give, Back, Called, Choice, rules_left, facts_left, branches_left, alternatives_left, Search, Found, Strict, once_level, not_level, if_level, guard_level, value_level, list_level, number_level, search_level, Entry, choice, strict, catch_level, left, Now, going, settling, telling, failed, raising, Config, after_body}
 use Rattle.pi_meaning.specs.Shared.Settle.{settled}
+use Rattle.pi_meaning.specs.Machine.Step.{search_slots, round_goal, rounds_after, worth_in}
+use Rattle.pi_settling.specs.Read.{relation_in}
+use Rattle.pi_settling.specs.Rounds.{better_sign, weighed}
 use Rattle.pi_settling.specs.Choices.{Pending, Alternative, left_by, narrowed_to}
 
 abbrev pub point : Level → Places → State → Point
@@ -77,6 +80,39 @@ choice_trace given l (facts_left ts cs) b = facts_trace given l ts cs b
 choice_trace given l (branches_left gs) b = then (meaning_of_any given gs (start_of l b)) (continued given l b.frames)
 choice_trace given l (alternatives_left name args p alts) b = alternatives_trace given l (GoalTree.call name args) p alts b
 
+-- ---- searches
+
+-- the answer that was found last
+abbrev pub last_found : Option Found → Trace State
+last_found None = done
+last_found (Some f) = one f.state
+
+-- what a round of a search labels, from a state that its posting left: its call does
+abbrev pub labels_of_round : Builtins → Level → Search → State → Trace Point
+labels_of_round given l x s = meaning given round_goal (point l (search_slots x) s)
+
+-- what a later round posts, settled: that the expression has a better value than this one
+abbrev pub better_posted : Search → State → ℤ → Trace State
+better_posted x s v = then (relation_in (better_sign x.objective.greatest) x.objective.expression (int v) s) (settled s)
+
+-- so many later rounds of a search whose call began in the first state; the second one was found last, with this value
+unfoldable pub later_rounds : Builtins → Level → Search → State → ℕ → State → ℤ → Trace State
+later_rounds given l x s zero r v = one r
+later_rounds given l x s (suc n) r v =
+    chosen (then (better_posted x s v) (labels_of_round given l x)) (λ q. weighed x.objective q.state (worth_in x q.state) (later_rounds given l x s n q.state)) (one r)
+
+-- what a search makes of the answers of a round: the first one is weighed, and rounds that follow are to be better; without one, that which was found last is the search's
+abbrev pub sought_from : Builtins → Level → Search → Option Found → Back → Trace Point → Trace State
+sought_from given l x f b t =
+    chosen t
+    (λ q. weighed x.objective q.state (worth_in x q.state) (λ v. later_rounds given l x b.state (rounds_after x.objective f v) q.state v))
+    (last_found f)
+
+-- a round that labels, or one whose posting is settled first, which leaves one state at most
+abbrev pub round_trace : Builtins → Level → Search → Bool → Trace Point → Trace Point
+round_trace given l x true t = t
+round_trace given l x false t = then (first t) (λ q. labels_of_round given l x q.state)
+
 -- what a level makes of the trace inside of it
 unfoldable pub level_trace : Builtins → Level → Strict → Back → Trace Point → Trace Point
 level_trace given l once_level b t = then (first t) (continued given l b.frames)
@@ -92,6 +128,8 @@ level_trace given l (list_level k into got) b t =
     (continued given l b.frames)
 level_trace given l (number_level into n) b t =
     then (counted t (λ k. one (with_slot (start_of l b) into (int (pos (n + k)))))) (continued given l b.frames)
+level_trace given l (search_level x labelled f) b t =
+    then (sought_from given l x f b (round_trace given l x labelled t)) (λ r. continued given l b.frames (point l b.slots r))
 
 -- what a `catch` makes of the trace inside of it
 unfoldable pub catch_trace : Builtins → Level → Tree → GoalTree → Back → Trace Point → Trace Point

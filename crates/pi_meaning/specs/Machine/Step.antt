@@ -1,5 +1,5 @@
 -- One step of the machine.
-use Rattle.std.specs.Prelude.{ℕ, zero, suc, nat_lt, cond, pos, Bool, true, false, List, [], ◌∷◌, ◌++◌, Option, Some, None, option_and_then, is_some, codes, slice_set, replicate}
+use Rattle.std.specs.Prelude.{ℕ, zero, suc, nat_lt, cond, ℤ, pos, Bool, true, false, List, [], ◌∷◌, ◌++◌, Option, Some, None, Result, Ok, Err, option_and_then, is_some, codes, slice_set, replicate}
 use Rattle.std.specs.List.{list_any}
 use Rattle.pi_terms.specs.Tree.{Tree, int, atom, comp, Trees, no_trees, tree, trees_of, tree_count, cells, most_cells}
 use Rattle.pi_terms.specs.Places.{Places, held}
@@ -29,8 +29,15 @@ use Rattle.pi_syntax.specs.declared.program.Mode.{Mode}
 use Rattle.pi_terms.specs.ListCopies.{list_of_copies, new_in_all}
 use Rattle.pi_meaning.specs.CoreMeaning.Run.{Solution}
 use Rattle.pi_core.specs.declared.core_program.NameSlot.{NameSlot}
-use Rattle.pi_meaning.specs.Machine.Configuration.{Frame, more, return, give, Back, Called, Choice, rules_left, facts_left, branches_left, alternatives_left, Strict, once_level, not_level, if_level, guard_level, value_level, list_level, number_level, Entry, choice, strict, catch_level, left, Now, going, settling, telling, failed, raising, Config, config, behind, returning, after_body, in_places}
+use Rattle.pi_meaning.specs.Machine.Configuration.{Frame, more, return, give, Back, Called, Choice, rules_left, facts_left, branches_left, alternatives_left, Search, Found, Strict, once_level, not_level, if_level, guard_level, value_level, list_level, number_level, search_level, Entry, choice, strict, catch_level, left, Now, going, settling, telling, failed, raising, Config, config, behind, returning, after_body, in_places}
 use Rattle.pi_settling.specs.Settle.{Settlement}
+use Rattle.pi_settling.specs.Reading.{Operand, reads, refuses, operand_value}
+use Rattle.pi_settling.specs.Read.{operand_in}
+use Rattle.pi_settling.specs.Posted.{posted_in}
+use Rattle.pi_settling.specs.Rounds.{better_sign, count_better}
+use Rattle.pi_prop_spec.specs.Steps.{Refusal}
+use Rattle.pi_prop_spec.specs.Postings.{Posting, posting_in, raised_by}
+use Rattle.pi_settling.specs.Words.{plain_words, second_of}
 use Rattle.pi_constraints.specs.declared.constraint.Item.{Item}
 use Rattle.pi_settling.specs.Options.{Options, Objective, ValueWord}
 use Rattle.pi_settling.specs.Asked.{Asked, labels, raises}
@@ -238,9 +245,70 @@ label_step c w s r None = config (going r.goals c.all.slots s r.frames) r.stack
 label_step c w s r (Some p) =
     let a : Again = again c s r in config failed (choice (alternatives_left c.name a.args p (alternatives_of w p.domain)) a.back ∷ r.stack)
 
--- an objective isn't built
+-- ---- searches
+
+-- the arguments of the call that labels in a round, which runs in slots of its own
+abbrev pub search_args : Search → Trees
+search_args x = tree (plain_words x.options) (tree x.vars no_trees)
+
+abbrev pub search_slots : Search → Places
+search_slots x = in_places (search_args x)
+
+abbrev pub round_goal : GoalTree
+round_goal = call (codes "solve") (slots_from 0 2)
+
+abbrev pub round_call : Search → State → NameCall
+round_call x s = name_call (codes "solve") (slots_from 0 2) (record { trees = search_args x; slots = search_slots x; state = s })
+
+-- what the first round posts, by how its expression is read, and what a later one does, by its goal: it is settled, or something is raised
+abbrev pub begun_now : Search → State → Operand → Now
+begun_now x s (reads r sum) = settling s r no_goals (search_slots x) []
+begun_now x s (refuses ball) = raising ball
+
+abbrev pub bettered_now : Search → State → Result Posting Refusal → Now
+bettered_now x s (Ok p) = settling s (posted_in s p) no_goals (search_slots x) []
+bettered_now x s (Err r) = raising (raised_by s r)
+
+-- the goal that says that the expression has a better value than this one
+abbrev pub better_goal : Objective → ℤ → Tree
+better_goal b v = comp (better_sign b.greatest) (tree b.expression (tree (int v) no_trees))
+
+-- a search begins: the options and the variables are the call's two arguments
+abbrev pub search_of : Options → Objective → Trees → Search
+search_of o b ts = record { options = o; objective = b; vars = second_of ts }
+
+abbrev pub search_step : Search → NameCall → Rest → Config
+search_step x c r =
+    config (begun_now x c.all.state (operand_in x.objective.expression c.all.state))
+    (strict (search_level x false None) (back_to c.all.slots c.all.state (behind r.goals r.frames)) ∷ r.stack)
+
+-- the answer of a search, where there is one
+abbrev pub searched : Option Found → Back → List Entry → Config
+searched None b es = config failed es
+searched (Some f) b es = config (going no_goals b.slots f.state b.frames) es
+
+-- A round's answer, with this value: it is the search's where no integer is better, or no more rounds may follow; else the next round begins, from the state in which the call began.
+unfoldable pub next_round : ℕ → Search → State → ℤ → Back → List Entry → Config
+next_round zero x q v b es = config (going no_goals b.slots q b.frames) es
+next_round (suc n) x q v b es =
+    config (bettered_now x b.state (posting_in b.state (better_goal x.objective v))) (strict (search_level x false (Some (record { state = q; left = n }))) b ∷ es)
+
+-- how many rounds may follow an answer with this value
+abbrev pub rounds_after : Objective → Option Found → ℤ → ℕ
+rounds_after b None v = count_better b.greatest v
+rounds_after b (Some f) v = f.left
+
+abbrev pub weighed_step : Search → Option Found → State → Option ℤ → Back → List Entry → Config
+weighed_step x f q None b es = config (raising (type_error (codes "integer") x.objective.expression q)) es
+weighed_step x f q (Some v) b es = next_round (rounds_after x.objective f v) x q v b es
+
+abbrev pub worth_in : Search → State → Option ℤ
+worth_in x s = operand_value (operand_in x.objective.expression s)
+
+-- ---- calls of `solve`
+
 abbrev pub labels_step : Option Objective → Options → List Item → NameCall → Rest → Config
-labels_step (Some objective) o items c r = config (raising (unknown_ball (codes "solve") 2)) r.stack
+labels_step (Some b) o items c r = search_step (search_of o b c.all.trees) c r
 labels_step None o items c r =
     let s : State = confined c.all.state items in
     label_step c o.value s r (picked (pending s items) o.variable)
@@ -249,6 +317,12 @@ abbrev pub solve_step : Option Asked → NameCall → Rest → Config
 solve_step None c r = config (raising (unknown_ball c.name (tree_count c.all.trees))) r.stack
 solve_step (Some (raises ball)) c r = config (raising ball) r.stack
 solve_step (Some (labels o items)) c r = labels_step o.objective o items c r
+
+-- what a round labels, from the state that is left of its posting: its call asks for no objective
+abbrev pub round_step : Option Asked → NameCall → Rest → Config
+round_step None c r = config (raising (unknown_ball c.name (tree_count c.all.trees))) r.stack
+round_step (Some (raises ball)) c r = config (raising ball) r.stack
+round_step (Some (labels o items)) c r = labels_step None o items c r
 
 -- of later stages of the language just `solve` is built; what isn't there is not known
 abbrev pub later_step : Bool → List PredTree → NameCall → Rest → Outcome
@@ -396,6 +470,9 @@ strict_step (value_level called into) e s above b below = config (going no_goals
 strict_step (list_level slot into got) e s above b below =
     list_step (slot_value slot e s) (record { slot = slot; into = into; got = got }) above b below
 strict_step (number_level into n) e s above b below = config failed (above ++ strict (number_level into (suc n)) b ∷ below)
+strict_step (search_level x false f) e s above b below =
+    round_step (solve_asked (codes "solve") (search_args x) s) (round_call x s) (with_rest no_goals [] (strict (search_level x true f) b ∷ below))
+strict_step (search_level x true f) e s above b below = weighed_step x f s (worth_in x s) b below
 
 -- a `catch` that is left: it stays where there are choices in it
 abbrev pub leave : List Entry → Tree → GoalTree → Back → List Entry → List Entry
@@ -436,6 +513,7 @@ end_step (value_level called into) b es = config (raising (unresolved called b.s
 end_step (list_level slot into got) b es =
     config (going no_goals (slice_set b.slots into (Some (list_of_copies (next b.state) got))) (with_new_variables (new_in_all got) b.state) b.frames) es
 end_step (number_level into n) b es = config (going no_goals (slice_set b.slots into (Some (int (pos n)))) b.state b.frames) es
+end_step (search_level x labelled f) b es = searched f b es
 
 unfoldable pub fail_step : List Entry → Outcome
 fail_step [] = ending Done

@@ -1,13 +1,13 @@
 -- A weight of configurations, which falls at each step that counts no Tick: so between two Ticks there are only so many
 -- steps. What a goal weighs goes by what is behind an answer of it weighs, `behind`; how many answers it can have before a
 -- Tick is in that. A quiet call weighs what the clauses weigh that it enters, so weights are those of a program.
-use Rattle.std.specs.Prelude.{ℕ, zero, suc, ◌+◌, ◌<◌, Bool, true, false, cond, List, [], ◌∷◌, length, Option, Some, None, ⊤}
+use Rattle.std.specs.Prelude.{ℕ, zero, suc, ◌+◌, ◌*◌, ◌^◌, ◌<◌, Bool, true, false, cond, List, [], ◌∷◌, length, Option, Some, None, ⊤}
 use Rattle.pi_core.specs.GoalTree.{GoalTree, truth, fail, tick, call, apply, seq, alternatives, if_else, not, once, collect, count, catch, GoalTrees, no_goals, goal}
 use Rattle.pi_core.specs.CoreTree.{ClauseTree, PredTree, find_pred}
 use Rattle.pi_meaning.specs.Shared.Names.{is_call, is_given}
 use Rattle.pi_meaning.specs.CoreMeaning.Quiet.{TicksBetween}
 use Rattle.pi_syntax.specs.declared.program.Mode.{Mode}
-use Rattle.pi_meaning.specs.Machine.Configuration.{Frame, more, return, give, Choice, rules_left, facts_left, branches_left, alternatives_left, Strict, once_level, not_level, if_level, guard_level, value_level, list_level, number_level, Entry, choice, strict, catch_level, left, Now, going, settling, telling, failed, raising, Config}
+use Rattle.pi_meaning.specs.Machine.Configuration.{Frame, more, return, give, Choice, rules_left, facts_left, branches_left, alternatives_left, Found, Strict, once_level, not_level, if_level, guard_level, value_level, list_level, number_level, search_level, Entry, choice, strict, catch_level, left, Now, going, settling, telling, failed, raising, Config}
 use Rattle.pi_meaning.specs.Machine.Step.{Outcome, silently, with_tick, quietly, deeper, loading, writing, answering, ending}
 
 -- what calls weigh by what they enter without a Tick: those of a function, or else of a predicate, by name and number of
@@ -15,10 +15,23 @@ use Rattle.pi_meaning.specs.Machine.Step.{Outcome, silently, with_tick, quietly,
 abbrev pub CallWeights : Type 0
 CallWeights = Bool → List ℕ → ℕ → ℕ → ℕ
 
+-- a search, by how many rounds may follow
+abbrev pub rounds_left : Option Found → ℕ
+rounds_left None = 2 ^ 128
+rounds_left (Some f) = f.left
+
+abbrev pub search_weight : Bool → Option Found → ℕ
+search_weight true f = 4 * rounds_left f + 3
+search_weight false f = 4 * rounds_left f + 5
+
+-- what a call weighs that begins a search
+unfoldable pub search_room : ℕ
+search_room = search_weight false None + 4
+
 -- `call` weighs more than the goals by a name that it leads to
 abbrev pub call_weight : Bool → ℕ → ℕ
-call_weight true behind = suc (suc (suc (suc (suc behind))))
-call_weight false behind = suc (suc (suc behind))
+call_weight true behind = suc (suc (suc (suc (suc behind)))) + search_room
+call_weight false behind = suc (suc (suc behind)) + search_room
 
 unfoldable mutual
   pub goal_weight : CallWeights → GoalTree → ℕ → ℕ
@@ -113,6 +126,7 @@ strict_answer_weight calls (guard_level called c cs) behind answer = suc (goal_w
 strict_answer_weight calls (value_level called into) behind answer = suc behind
 strict_answer_weight calls (list_level value into got) behind answer = 2
 strict_answer_weight calls (number_level into n) behind answer = 1
+strict_answer_weight calls (search_level x labelled f) behind answer = search_weight labelled f
 
 -- an answer with no frame left: of the newest open level, behind so many marks
 unfoldable pub answer_weight : CallWeights → ℕ → List Entry → ℕ
@@ -139,6 +153,7 @@ strict_weight calls (guard_level called c cs) behind answer = suc (rules_weight 
 strict_weight calls (value_level called into) behind answer = 2
 strict_weight calls (list_level value into got) behind answer = suc behind
 strict_weight calls (number_level into n) behind answer = suc behind
+strict_weight calls (search_level x labelled f) behind answer = suc behind
 
 unfoldable pub stack_weight : CallWeights → List Entry → ℕ
 stack_weight calls [] = 0

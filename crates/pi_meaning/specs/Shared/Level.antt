@@ -1,7 +1,7 @@
 -- Levels: how deep goals may go on, and what calls do there. The depth is a device of the definitions (own), which makes
 -- each trace finite: a call that is counted takes one from it for the rules that it runs, and a goal `Tick` takes one for
--- what follows it. Where none is left the trace ends in Deep. A call by `call` takes one without a Tick, as a later round of
--- a labelling is to: so a depth says nothing of how many Ticks stand before a Deep.
+-- what follows it. Where none is left the trace ends in Deep. A call by `call` takes one without a Tick: so a depth says nothing of
+-- how many Ticks stand before a Deep.
 use Rattle.std.specs.Prelude.{ℕ, List, Option, Some, None}
 use Rattle.pi_terms.specs.Tree.{Tree, Trees}
 use Rattle.pi_terms.specs.Places.{Places}
