@@ -232,7 +232,7 @@ mutual
   say ps t steps first slots at truth last are = says-one ps t steps first slots at (mark truth last) [] are
   say ps t steps first slots at fail last are = says-one ps t steps first slots at (mark fail last) [] are
   say ps t steps first slots at tick last are = says-one ps t steps first slots at (mark tick last) [] are
-  say ps t steps first slots at (call name args) last are = says-one ps t steps first slots at (mark (call name args) last) [] are
+  say ps t steps first slots at (call name args) last are = λ other. says-one ps t steps first slots at (mark (call name args) last) [] are
   say ps t steps first slots at (apply name args slot) last are = says-one ps t steps first slots at (mark (apply name args slot) last) [] are
   say ps t steps first slots at (seq gs) last are = (
     says-one ps t steps first slots at (mark (seq gs) last) (marked_seq gs last) are,

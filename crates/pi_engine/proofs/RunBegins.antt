@@ -102,6 +102,7 @@ undone-stays order u v w x m marks keeps back =
       keeps = record {
         good = λ n good. back.good n (keeps.good n (marks.stays.keeps.good n good)) (marks.newest n good);
         same = λ n good. back.same n (keeps.good n (marks.stays.keeps.good n good)) (marks.newest n good) ∙ keeps.same n (marks.stays.keeps.good n good) ∙ marks.stays.keeps.same n good;
+        beside = λ n. back.beside n ∙ (keeps.beside n ∙ marks.stays.keeps.beside n);
         terms = λ r t is. ap (λ (now : Moment). now.terms r.number) (back.now ∙ at) ∙ is;
         names = λ k name is. back.names k name (keeps.names k name (marks.stays.keeps.names k name is));
       };

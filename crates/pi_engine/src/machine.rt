@@ -18,7 +18,7 @@ ghost use Rattle.pi_engine.specs.Happens.{Happens, IsBuiltSoFar, IsRepeated, las
 
 use crate::begin::begin;
 use crate::turns::next_happening;
-use pi_constraints::{StateStore, StoredDomains};
+use pi_constraints::{KeptStates, StateStore};
 use pi_core::{CoreProgram, CoreQuery, NameSlots};
 use pi_engine_arenas::Run;
 use pi_engine_code::Code;
@@ -98,7 +98,7 @@ impl<'p, S: StateStore> Machine<'p, S> {
     }
 }
 
-impl<S: StoredDomains> Machine<'_, S> {
+impl<S: KeptStates> Machine<'_, S> {
     /// What comes next: an answer, a text that is written, or the end, which is answered for good.
     pub fn next(&mut self, budget: &mut Budget) -> Happening
         ensures spends { Spends (mode_of (machine_view S.seen S.order self.old)) budget.old budget.new }

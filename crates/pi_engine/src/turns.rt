@@ -18,7 +18,7 @@ ghost use Rattle.pi_engine.specs.Spends.{Spends};
 ghost use Rattle.pi_engine.specs.Turns.{StepIs, StepStops, after_settling, SettlesDue, SettlingStops, stopped_run, NextComes, IsRunning, RunsAfter, IsAnswered, RepeatsEnd, Lasts, IsRaised, with_budget};
 ghost use Rattle.pi_engine_stands.specs.Changes.{Changes, ChangesBy};
 
-use pi_constraints::{StateStore, StoredDomains};
+use pi_constraints::{KeptStates, StateStore};
 use pi_core::{Answer, NameSlot};
 use pi_engine_arenas::{End, Now, Point, Run, Settling, Telling};
 use pi_engine_code::Code;
@@ -38,7 +38,7 @@ pub enum Outcome {
 }
 
 /// What comes next in a run: an answer, a text, or the end.
-pub fn next_happening<S: StoredDomains>(
+pub fn next_happening<S: KeptStates>(
     code: &Code<'_>,
     mode: Mode,
     names: &[NameSlot],
@@ -92,7 +92,7 @@ fn memory_wanted<S: StateStore>(run: &mut Run<S>) -> Happening
 
 /// One step of a run. Where it has ended, nothing.
 #[inline(always)]
-fn step<S: StoredDomains>(
+fn step<S: KeptStates>(
     code: &Code<'_>,
     mode: Mode,
     names: &[NameSlot],
@@ -144,7 +144,7 @@ fn step<S: StoredDomains>(
 /// Runs the constraints that are due, and then goes on where the point is that was noted with them; where a domain is empty, with the
 /// newest entry. Where the work is spent before a constraint that is due, the run ends.
 #[inline(never)]
-fn settle_due<S: StoredDomains>(run: &mut Run<S>, budget: &mut Budget) -> Result<(), AllocError>
+fn settle_due<S: KeptStates>(run: &mut Run<S>, budget: &mut Budget) -> Result<(), AllocError>
     ensures spends { (mode : Mode) → Spends mode budget.old budget.new }
     ensures settles { IfOk result (λ _. (it : Box Settling Global) → run.old.now ≡ Now.Settling it →
         Changes S.seen S.order run.old run.new (SettlesDue it budget.old budget.new)) }
@@ -189,7 +189,7 @@ fn tell<S: StateStore>(run: &mut Run<S>) -> Outcome
 }
 
 /// Goes on behind goals that are done: with a frame, or with an answer of the newest open level or of the query.
-fn go_on<S: StateStore>(
+fn go_on<S: KeptStates>(
     code: &Code<'_>,
     names: &[NameSlot],
     run: &mut Run<S>,

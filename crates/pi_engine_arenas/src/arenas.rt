@@ -54,6 +54,20 @@ pub enum Strict {
     Collect(u32, usize),
     /// By its place, and the number of answers so far.
     Count(u32, u64),
+    /// A search of `solve` for the best answer, round by round. The entry's own block has what the search needs.
+    Search(Search),
+}
+
+/// A round of a search: the places of the call of `solve` and of the goal that labels in a round, where the caller's block begins,
+/// whether the greatest value is wanted, and whether what the round posted is settled first. After the block of that goal stands the
+/// expression. What the entry's mark keeps beside is the answer that was found last, with how many rounds may follow the present one.
+#[derive(Clone, Copy)]
+pub struct Search {
+    pub place: u32,
+    pub goal: u32,
+    pub caller: usize,
+    pub greatest: bool,
+    pub is_settling: bool,
 }
 
 /// What an entry comes back to, beside the state of the store.
@@ -192,6 +206,21 @@ impl<M: Drop> Arenas<M> {
         if number > 0 && number <= self.entries.len() {
             let entry = &mut self.entries[number - 1];
             entry.back.kind = kind;
+        }
+    }
+
+    /// Puts another mark into the entry with this number.
+    pub fn set_mark(&mut self, number: usize, mark: M)
+        ensures entries { (e : Entry M) → entry_at self.old.entries.items number ≡ Some e →
+            self.new.entries.items ≡ slice_set self.old.entries.items (number - 1) (record { mark = mark; back = e.back }) }
+        ensures blocks { self.new.blocks ≡ self.old.blocks }
+        ensures frames { self.new.frames ≡ self.old.frames }
+        ensures level { self.new.level ≡ self.old.level }
+        ensures collected { self.new.collected.items ≡ self.old.collected.items }
+    {
+        if number > 0 && number <= self.entries.len() {
+            let entry = &mut self.entries[number - 1];
+            entry.mark = mark;
         }
     }
 

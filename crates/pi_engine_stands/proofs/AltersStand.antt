@@ -12,7 +12,7 @@ use Rattle.pi_engine_arenas.specs.declared.arenas.Entry.{Entry}
 use Rattle.pi_meaning.specs.Machine.Configuration.{Entry as EntryData, choice, strict, catch_level, left, Strict, Back as BackData}
 use Rattle.pi_meaning.specs.Machine.Shape.{open_level}
 use Rattle.pi_engine_stands.specs.Here.{Here}
-use Rattle.pi_engine_stands.specs.Stands.{World, Loaded, entries_of, ends_of, entry_ends, back_here, agrees_from, Agrees, KindIs, rules_kind, facts_kind, branches_kind, alternatives_kind, once_kind, not_kind, if_kind, guard_kind, apply_kind, collect_kind, count_kind, catch_kind, exit_kind, EntryIs, IsAbove, StackIs, entry_above, StackStands}
+use Rattle.pi_engine_stands.specs.Stands.{World, Loaded, entries_of, ends_of, entry_ends, back_here, agrees_from, Agrees, KindIs, rules_kind, facts_kind, branches_kind, alternatives_kind, once_kind, not_kind, if_kind, guard_kind, apply_kind, collect_kind, count_kind, search_kind, catch_kind, exit_kind, KeepsFound, EntryIs, IsAbove, StackIs, entry_above, StackStands}
 use Rattle.pi_constraints.specs.Store.{Extend}
 use Rattle.pi_meaning.proofs.Machine.StackLemmas.{IsClosed}
 use Rattle.pi_terms.proofs.OptionLemmas.{one-some}
@@ -92,8 +92,9 @@ above-after w a (Some y) z above = above
 entry-alike : {M : Type 0} (w : World M) (i m from to above over : ℕ) (x z : Entry M) (kind : Kind) (c : List Tree) (y y' : EntryData) (es es' : List EntryData) → slice_get (entries_of w) i ≡ Some x →
     ((base : ℕ) → ends_of w.loaded kind base ≡ ends_of w.loaded x.back.kind base) → EntryIs w es (entry_at (entries_of w) m) from to z y → open_level zero es' ≡ open_level zero es →
     KindIs w.loaded c (back_here w z) (w.store.at_mark z.mark).state z.back.base z.back.frame z.back.blocks.slots above over z.back.kind y' →
+    (KeepsFound w.store z.mark y → KeepsFound w.store z.mark y') →
     EntryIs (after_altering w i x kind c) es' (entry_at (slice_set (entries_of w) i (with_kind x kind)) m) above over z y'
-entry-alike w i m from to above over x z kind c y y' es es' at ends is level kind_is =
+entry-alike w i m from to above over x z kind c y y' es es' at ends is level kind_is found =
     let after : World _ = after_altering w i x kind c in
     record {
       good = is.good;
@@ -107,14 +108,16 @@ entry-alike w i m from to above over x z kind c y y' es es' at ends is level kin
       kind = subst (λ h. KindIs w.loaded c h (w.store.at_mark z.mark).state z.back.base z.back.frame z.back.blocks.slots above over z.back.kind y') (sym (back-alike w i x z kind c at ends)) kind_is;
       older = above-after w (altered w.arenas i x kind c) (entry_at (slice_set (entries_of w) i (with_kind x kind)) m) z
           (above-alike w w.loaded (entry_at (entries_of w) m) (entry_at (slice_set (entries_of w) i (with_kind x kind)) m) z (alike-at w i m x kind at ends) is.older);
+      found = found is.found;
     }
 
 -- the entry itself, which stands for something else
 entry-itself : {M : Type 0} (w : World M) (i from top over : ℕ) (x : Entry M) (kind : Kind) (c : List Tree) (y y' : EntryData) (es : List EntryData) → slice_get (entries_of w) i ≡ Some x →
     ((base : ℕ) → ends_of w.loaded kind base ≡ ends_of w.loaded x.back.kind base) → EntryIs w es (entry_at (entries_of w) i) from top x y →
     KindIs w.loaded c (back_here w x) (w.store.at_mark x.mark).state x.back.base x.back.frame x.back.blocks.slots from over kind y' →
+    (KeepsFound w.store x.mark y → KeepsFound w.store x.mark y') →
     EntryIs (after_altering w i x kind c) es (entry_at (slice_set (entries_of w) i (with_kind x kind)) i) from over (with_kind x kind) y'
-entry-itself w i from top over x kind c y y' es at ends is kind_is =
+entry-itself w i from top over x kind c y y' es at ends is kind_is found =
     let after : World _ = after_altering w i x kind c in
     let back : back_here after (with_kind x kind) ≡ back_here w x = back-alike w i x (with_kind x kind) kind c at ends in
     record {
@@ -130,6 +133,7 @@ entry-itself w i from top over x kind c y y' es at ends is kind_is =
       older = above-after w (altered w.arenas i x kind c) (entry_at (slice_set (entries_of w) i (with_kind x kind)) i) (with_kind x kind)
           (above-kind w (entry_at (slice_set (entries_of w) i (with_kind x kind)) i) x kind
           (above-alike w w.loaded (entry_at (entries_of w) i) (entry_at (slice_set (entries_of w) i (with_kind x kind)) i) x (alike-at w i i x kind at ends) is.older));
+      found = found is.found;
     }
 
 -- an entry that is no strict level has nothing of its own among the values
@@ -146,6 +150,7 @@ kind-shifts l c d h t base frame slots from to over kind y lies (guard_kind call
 kind-shifts l c d h t base frame slots from to over kind y lies (apply_kind own free args fit one) = absurd (lies _ _ refl)
 kind-shifts l c d h t base frame slots from to over kind y lies (collect_kind own order some) = absurd (lies _ _ refl)
 kind-shifts l c d h t base frame slots from to over kind y lies (count_kind own one) = absurd (lies _ _ refl)
+kind-shifts l c d h t base frame slots from to over kind y lies (search_kind own labels held fit order one) = absurd (lies _ _ refl)
 kind-shifts l c d h t base frame slots from to over kind y lies (catch_kind own stays one) = (catch_kind own stays refl, one)
 kind-shifts l c d h t base frame slots from to over kind y lies (exit_kind one) = (exit_kind refl, one)
 
@@ -195,6 +200,7 @@ pub record Alters {M : Type 0} (w : World M) (i : ℕ) (x : Entry M) (kind : Kin
   pub waits : (from : ℕ) →
       KindIs w.loaded w.arenas.collected (back_here w x) (w.store.at_mark x.mark).state x.back.base x.back.frame x.back.blocks.slots from (length w.arenas.collected) x.back.kind (strict s b) →
       KindIs w.loaded c (back_here w x) (w.store.at_mark x.mark).state x.back.base x.back.frame x.back.blocks.slots from (length c) kind (strict t b)
+  pub found : KeepsFound w.store x.mark (strict s b) → KeepsFound w.store x.mark (strict t b)
 
 below-stays : {M : Type 0} (w : World M) (i from : ℕ) (x : Entry M) (kind : Kind) (c : List Tree) (s t : Strict) (b : BackData) (es : List EntryData) → Alters w i x kind c s t b → from ≤ length w.arenas.collected →
     StackIs w i from es → StackIs (after_altering w i x kind c) i from es
@@ -207,6 +213,8 @@ below-stays w i from x kind c s t b es it order below =
       frames = λ j z h at few. (few, refl);
       collected = take_all (length w.arenas.collected) w.arenas.collected (omega arith) ∙ sym it.more;
       enough = it.long;
+      beside = λ m. refl;
+      names = λ k name has. has;
     }) (omega arith) order below
 
 stack-itself : {M : Type 0} (w : World M) (i n top : ℕ) (x : Entry M) (kind : Kind) (c : List Tree) (s t : Strict) (b : BackData) (below : List EntryData) → Alters w i x kind c s t b → n ≡ suc i → top ≡ length w.arenas.collected →
@@ -221,7 +229,7 @@ stack-itself w i n top x kind c s t b below it number all (entry_above m from fs
     kind-order w.loaded w.arenas.collected (back_here w x) (w.store.at_mark x.mark).state x.back.base x.back.frame x.back.blocks.slots from (length w.arenas.collected) x.back.kind (strict s b) is_it.kind in
     subst (λ k. StackIs (after_altering w i x kind c) (suc k) (length c) (strict t b ∷ below)) (sym same)
     (entry_above i from below (with_kind x kind) (strict t b) (get-set (entries_of w) i x (with_kind x kind) it.at)
-    (entry-itself w i from (length w.arenas.collected) (length c) x kind c (strict s b) (strict t b) below it.at it.ends is_it (it.waits from is_it.kind))
+    (entry-itself w i from (length w.arenas.collected) (length c) x kind c (strict s b) (strict t b) below it.at it.ends is_it (it.waits from is_it.kind) it.found)
     (below-stays w i from x kind c s t b below it order (subst (λ k. StackIs w k from below) same under)))
 
 stack-altered : {M : Type 0} (w : World M) (i n top k : ℕ) (x : Entry M) (kind : Kind) (c : List Tree) (s t : Strict) (b : BackData) (above below : List EntryData) → Alters w i x kind c s t b → IsClosed k above → n ≡ length above + suc i →
@@ -233,7 +241,7 @@ stack-altered w i n top k x kind c s t b (y ∷ above) below it closed number al
     kind-shifts w.loaded w.arenas.collected c (back_here w z) (w.store.at_mark z.mark).state z.back.base z.back.frame z.back.blocks.slots from top over z.back.kind y (closed-first k y above closed) is.kind in
     let rest : (j : ℕ) × IsClosed j above = closed-rest k y above closed in
     entry_above m over (above ++ strict t b ∷ below) z y (get-other (entries_of w) i m (with_kind x kind) (λ same. absurd (omega (arith, same, number))) ∙ here)
-    (entry-alike w i m from top over over x z kind c y y (above ++ strict s b ∷ below) (above ++ strict t b ∷ below) it.at it.ends is (open-altered zero above below s t b b) shifts.0)
+    (entry-alike w i m from top over over x z kind c y y (above ++ strict s b ∷ below) (above ++ strict t b ∷ below) it.at it.ends is (open-altered zero above below s t b b) shifts.0 (λ has. has))
     (stack-altered w i m from rest.0 x kind c s t b above below it rest.1 (omega (arith, number)) (shifts.1 ∙ all) under)
 
 -- the whole stack

@@ -75,11 +75,11 @@ block-level w p n g e k limit in_it below z found =
     omega (arith, below, level-begins w.loaded z (entry_at (entries_of w) w.arenas.level) in_it.block.base found (block-above (tables_in w.loaded) (steps_of w.loaded) (now_here w) in_it.block in_it.at.leaves n k in_it.at.frames))
 
 -- with its block in front of a slot
-record EnteredWithin {M : Type 0} (w : World M) (p : Point) (n : ℕ) (g : GoalTree) (e : Places) (k : List Frame) (limit : ℕ) : Type 0 where
+pub record EnteredWithin {M : Type 0} (w : World M) (p : Point) (n : ℕ) (g : GoalTree) (e : Places) (k : List Frame) (limit : ℕ) : Type 0 where
   pub it : Entered w p n g e k
   pub within : block_end it.block ≤ limit
 
-entered-below : {M : Type 0} (w : World M) (b : ArenasView M) (limit : ℕ) (p : Point) (n : ℕ) (g : GoalTree) (e : Places) (k : List Frame) (es : List EntryData) → KeepsBelow w.arenas b limit → StackStands w es → (in_it : Entered w p n g e k) →
+pub entered-below : {M : Type 0} (w : World M) (b : ArenasView M) (limit : ℕ) (p : Point) (n : ℕ) (g : GoalTree) (e : Places) (k : List Frame) (es : List EntryData) → KeepsBelow w.arenas b limit → StackStands w es → (in_it : Entered w p n g e k) →
     block_end in_it.block ≤ limit → EnteredWithin (moved w w.store b) p n g e k limit
 entered-below w b limit p n g e k es keeps stands in_it within =
     record {
@@ -124,7 +124,7 @@ apply-made w u mark p s n q base arity into pred predicate args ts e k es stands
     let is : KindIs w.loaded w.arenas.collected (now_here w) w.store.now.state base n slots (length w.arenas.collected) (length w.arenas.collected) kind y =
     apply_kind (goal-stands w p n s (apply pred.name args into) e k at in_it) (ap (is_value_name pred.name) many ∙ not_built) held (subst (λ b. block_end b ≤ base) (sym block) below) refl in
     let entered : StackStands after (y ∷ es) =
-    stack-entered w u mark base n (length w.arenas.collected) kind y es stands marks in_it.agrees refl (kept-within w es stands) (omega arith) stands.stack is in
+    stack-entered w u mark base n (length w.arenas.collected) kind y es stands marks in_it.agrees refl (kept-within w es stands) (omega arith) stands.stack is tt in
     let level : w.arenas.level ≤ length (entries_of w) = omega (arith, stands.level, open_level-within zero es, stack-length w (length (entries_of w)) (length w.arenas.collected) es stands.stack) in
     let extends : Extend w.store.now.terms u.now.terms = λ i t has. marks.stays.keeps.terms (record { number = i }) t has in
     let own : HoldsArguments u.now.terms w.arenas.blocks.slots base pred.arity ts = record { within = holds.within; held = held-extends w.store.now.terms u.now.terms (take pred.arity (drop base w.arenas.blocks.slots)) _ extends holds.held } in

@@ -43,6 +43,8 @@ back-leaves w v b m top x es whole here good_blocks comes returns some =
           (omega (arith, few, within, long), ap (take z.back.frames) comes.frames ∙ take-take z.back.frames x.back.frames w.arenas.frames within));
       collected = ap (take top) (sym comes.collected);
       enough = omega (arith, some, ap length comes.collected);
+      beside = returns.beside;
+      names = returns.names;
     }
 
 -- what the newest entry is, and what is below it
@@ -89,6 +91,7 @@ came-back-in w v b back n top es stands takes count all (entry_above m from fs x
         stack = stack-moves w v b (suc m) top m from fs leave (omega arith) order below;
         here = now ∙ sym stays;
         now = ap (λ k. k.state) returns.now ∙ ap (λ k. k.state) (sym (leave.marks m x (omega arith) here is.good).1);
+        words = ap (λ k. k.words) returns.now ∙ ap (λ k. k.words) (sym (leave.marks m x (omega arith) here is.good).1);
         level = comes.level ∙ ap (λ r. r.level) back_is;
         kept = comes.kept ∙ stands.kept ∙ ap (λ r. slots_kept_by (newest r)) (sym comes.entries);
         code = code-keeps w.loaded.code (tables_in w.loaded) w.store.names v.names w.loaded.preds (λ k name has. returns.names k name has) stands.code;

@@ -30,6 +30,7 @@ ends-begin l (Kind.Strict (Strict.Guard p r)) base = rule-base (slice_get l.code
 ends-begin l (Kind.Strict (Strict.Apply place caller)) base = refl
 ends-begin l (Kind.Strict (Strict.Collect place first)) base = shape-base (slice_get (steps_of l) place) base
 ends-begin l (Kind.Strict (Strict.Count place n)) base = shape-base (slice_get (steps_of l) place) base
+ends-begin l (Kind.Strict (Strict.Search it)) base = refl
 ends-begin l (Kind.Catch place) base = shape-base (slice_get (steps_of l) place) base
 ends-begin l (Kind.Rules p r) base = refl
 ends-begin l (Kind.Facts p r) base = refl

@@ -168,7 +168,7 @@ renamed-stands w back y left b es kind it none kind_is =
       level = it.level ∙ ap (λ r. r.level) (sym it.back_is) ∙ it.is.level;
       kept = it.kept ∙ ap slots_kept_by first ∙ sym (ap slots_kept_by last);
       stack = subst (λ m. StackIs (moved w w.store a) m top (choice left b ∷ es)) (sym more)
-          (stack-renamed w it.below es x y (choice left b) kind it.count it.at entry_is (subst (λ n. StackIs w it.below n es) none it.stack) waits);
+          (stack-renamed w it.below es x y (choice left b) kind it.count it.at entry_is (subst (λ n. StackIs w it.below n es) none it.stack) waits tt);
     }
 
 some-goals : {M : Type 0} (w : World M) (back : Back) (y : EntryData) (place : ℕ) (block : Block) (g : GoalTree) (gs : GoalTrees) (last : Bool) (e : Places) (k : List Frame) (es : List EntryData) (n next : ℕ) → (it : IsBack w back y es) → it.from ≡ length w.arenas.collected →
@@ -257,7 +257,7 @@ others-pushed w v mark p n next count g h hs e k es stands marks in_it following
         kept = ap slots_kept_by (sym (newest-last (entries_of w) x));
         stack = subst (λ q. StackIs (with_entry w v mark slots p.base n kind) q top (y ∷ es)) (sym more)
             (stack-pushed w v mark slots p.base n top kind y es stands marks (kept-within w es stands) (omega arith) (omega arith) (base-fits-in w (entry_at (entries_of w) w.arenas.level) in_it.agrees) in_it.agrees
-            (subst (λ q. KindIs w.loaded w.arenas.collected q w.store.now.state p.base n slots top top kind y) (sym (marked-all w)) kind_is) stands.stack);
+            (subst (λ q. KindIs w.loaded w.arenas.collected q w.store.now.state p.base n slots top top kind y) (sym (marked-all w)) kind_is) tt stands.stack);
       };
       runs = going_now (going-passes w v a m (record { place = p.place + 1; count = 1; base = p.base; frame = n }) (goal g no_goals) e k es passes stands.stack level (first-runs w p n g (goal h hs) e k in_it));
     })

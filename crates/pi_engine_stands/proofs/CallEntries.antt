@@ -10,7 +10,7 @@ use Rattle.pi_engine_arenas.specs.Blocks.{IsKept, brought_back}
 use Rattle.pi_engine_arenas.specs.Arenas.{ArenasView, entry_at, newest, slots_kept_by, frames_kept_by, noted_by, with_kind, PushesEntry, between, keeping}
 use Rattle.pi_engine_arenas.specs.declared.arenas.Entry.{Entry}
 use Rattle.pi_meaning.specs.Machine.Configuration.{Entry as EntryData}
-use Rattle.pi_engine_stands.specs.Stands.{World, entries_of, entry_ends, back_here, KindIs, EntryIs, IsAbove, StackIs, no_entries, entry_above}
+use Rattle.pi_engine_stands.specs.Stands.{World, entries_of, entry_ends, back_here, KindIs, KeepsFound, EntryIs, IsAbove, StackIs, no_entries, entry_above}
 use Rattle.pi_engine_stands.specs.Tries.{renamed, KeepsCall, keeps_new, keeps_own}
 use Rattle.pi_engine_stands.proofs.StandsLemmas.{moved, here_of, Leaves, stack-length, open_level-within, entry_at-take, agrees-moves, stack-moves, above-moves, last-or-below}
 use Rattle.pi_engine_stands.proofs.CallsStand.{Passes}
@@ -19,7 +19,7 @@ use Rattle.pi_engine_stands.proofs.CallsStand.{Passes}
 
 -- a store that stays
 pub same-stays : {M : Type 0} (v : StoreView M) → Stays v v
-same-stays v = record { keeps = record { good = λ m h. h; same = λ m h. refl; terms = λ r t h. h; names = λ k n h. h }; state = refl }
+same-stays v = record { keeps = record { good = λ m h. h; same = λ m h. refl; beside = λ m. refl; terms = λ r t h. h; names = λ k n h. h }; state = refl }
 
 renamed-leaves : {M : Type 0} (w : World M) (x : Entry M) (kind : Kind) (n : ℕ) → length (entries_of w) ≡ suc n → Leaves w w.store (renamed w.arenas x kind) n (length w.arenas.collected)
 renamed-leaves w x kind n all =
@@ -30,6 +30,8 @@ renamed-leaves w x kind n all =
       frames = λ i z h at fit. (fit, refl);
       collected = refl;
       enough = omega arith;
+      beside = λ m. refl;
+      names = λ k name has. has;
     }
 
 pub renamed-passes : {M : Type 0} (w : World M) (x : Entry M) (kind : Kind) (n : ℕ) → length (entries_of w) ≡ suc n → Passes w w.store (renamed w.arenas x kind) n
@@ -55,9 +57,9 @@ back-renamed w n x kind all level =
 pub stack-renamed : {M : Type 0} (w : World M) (n : ℕ) (es : List EntryData) (x : Entry M) (stood y : EntryData) (kind : Kind) →
     length (entries_of w) ≡ suc n → slice_get (entries_of w) n ≡ Some x →
     EntryIs w es (entry_at (entries_of w) n) (length w.arenas.collected) (length w.arenas.collected) x stood → StackIs w n (length w.arenas.collected) es →
-    KindIs w.loaded w.arenas.collected (back_here w x) (w.store.at_mark x.mark).state x.back.base x.back.frame x.back.blocks.slots (length w.arenas.collected) (length w.arenas.collected) kind y →
+    KindIs w.loaded w.arenas.collected (back_here w x) (w.store.at_mark x.mark).state x.back.base x.back.frame x.back.blocks.slots (length w.arenas.collected) (length w.arenas.collected) kind y → KeepsFound w.store x.mark y →
     StackIs (moved w w.store (renamed w.arenas x kind)) (suc n) (length w.arenas.collected) (y ∷ es)
-stack-renamed w n es x stood y kind all at is stack kind_is =
+stack-renamed w n es x stood y kind all at is stack kind_is found =
     let a : ArenasView _ = renamed w.arenas x kind in
     let top : ℕ = length w.arenas.collected in
     let after : World _ = moved w w.store a in
@@ -75,6 +77,7 @@ stack-renamed w n es x stood y kind all at is stack kind_is =
       agrees = agrees-moves w w.store a n top n top x.back.level es (back_here w x) (back_here after (with_kind x kind)) leaves (omega arith) stack level back is.agrees;
       kind = subst (λ h. KindIs w.loaded w.arenas.collected h (w.store.at_mark x.mark).state x.back.base x.back.frame x.back.blocks.slots top top kind y) (sym back) kind_is;
       older = above-moves w w.store a (entry_at (entries_of w) n) (entry_at a.entries n) (with_kind x kind) (entry_at-take (entries_of w) a.entries n n (omega arith) leaves.entries) (above-kind w (entry_at (entries_of w) n) x kind is.older);
+      found = found;
     })
     (stack-moves w w.store a n top n top es leaves (omega arith) (omega arith) stack)
 
@@ -131,6 +134,8 @@ drops-leave w b n es within stack drops =
       frames = λ i x h at fit. (subst (λ fs. x.back.frames ≤ length fs) (sym drops.frames) fit, ap (take x.back.frames) drops.frames);
       collected = ap (take (length w.arenas.collected)) (sym drops.collected);
       enough = subst (λ c. length w.arenas.collected ≤ length c) (sym drops.collected) (omega arith);
+      beside = λ m. refl;
+      names = λ k name has. has;
     }
 
 pub drops-pass : {M : Type 0} (w : World M) (b : ArenasView M) (n : ℕ) (es : List EntryData) → n ≤ length (entries_of w) → StackIs w n (length w.arenas.collected) es → Drops w.arenas b n → Passes w w.store b n

@@ -15,7 +15,7 @@ use Rattle.pi_engine_stands.specs.Stands.{World, entries_of, now_here, back_here
 use Rattle.pi_engine_stands.specs.Tries.{OwnEntry, HasEntry, no_entry, own_entry, CallIs, renamed, KeepsCall, keeps_new, keeps_own}
 use Rattle.pi_terms.proofs.ListLemmas.{take-take}
 use Rattle.pi_engine_stands.proofs.HereLemmas.{Moves}
-use Rattle.pi_engine_stands.proofs.StandsLemmas.{moved, stack-length, open_level-within}
+use Rattle.pi_engine_stands.proofs.StandsLemmas.{moved, stack-length, open_level-within, IsNoSearch, no-search-none, no-search-found}
 use Rattle.pi_engine_stands.proofs.EntriesStand.{marked_here, with_entry, pushed-leaves, back-of-new, stack-pushed}
 use Rattle.pi_engine_stands.proofs.CallsStand.{Passes, keeps-terms, call-moves}
 use Rattle.pi_engine_stands.proofs.CallEntries.{renamed-passes, back-renamed, stack-renamed, get-set}
@@ -60,10 +60,10 @@ one-pred : (r : Option PredTree) (p q : PredTree) → r ≡ Some p → r ≡ Som
 one-pred r p q h k = cc
 
 kept-new : {M : Type 0} (w : World M) (v : StoreView M) (a : ArenasView M) (p base frame from slots : ℕ) (called : Called) (cs : List ClauseTree) (s : State) (k : List Frame) (es : List EntryData) (again : Bool) (kind : Kind) (y : EntryData) →
-    (is : CallIs w p base frame from called cs s k es again) → slots ≡ base + is.call.call.pred.arity → Makes w p base frame from called cs s k kind y →
+    (is : CallIs w p base frame from called cs s k es again) → slots ≡ base + is.call.call.pred.arity → Makes w p base frame from called cs s k kind y → IsNoSearch y →
     w.store.now.state ≡ s → CallStands w.loaded (now_here w) base frame p from called cs k → StackIs w (length (entries_of w)) (length w.arenas.collected) es →
     PushesEntry w.order (between w.store v w.arenas a) (keeping slots base frame kind) → CallKept w v a base kind y es
-kept-new w v a p base frame from slots called cs s k es again kind y is at makes same stands stack push =
+kept-new w v a p base frame from slots called cs s k es again kind y is at makes none same stands stack push =
     let top : ℕ = length w.arenas.collected in
     let n : ℕ = length (entries_of w) in
     let b : ArenasView _ = pushed w.arenas push.mark slots base frame kind in
@@ -85,15 +85,15 @@ kept-new w v a p base frame from slots called cs s k es again kind y is at makes
           (record { code = is.code; state = is.state; tables = is.tables; level = is.level; kept = is.kept; stack = stack })
           push.marks (omega (arith, is.over, at)) fit (omega arith) (λ x found. omega (arith, is.inside x found, at)) is.agrees
           (subst (λ r. KindIs w.loaded w.arenas.collected (marked_here w slots) r base frame slots top top kind y) (sym same)
-          (makes (marked_here w slots) slots (call-moves w.loaded (now_here w) (marked_here w slots) base frame p from slots frame called cs k stands (omega (arith, at, one)) (omega arith) (moves-marked w slots frame fit) refl) (omega (arith, at, one))))
+          (makes (marked_here w slots) slots (call-moves w.loaded (now_here w) (marked_here w slots) base frame p from slots frame called cs k stands (omega (arith, at, one)) (omega arith) (moves-marked w slots frame fit) refl) (omega (arith, at, one)))) (no-search-none y none)
           stack);
       kept = ap slots_kept_by (sym (newest-last (entries_of w) (new_entry w.arenas push.mark slots base frame kind)));
     })
 
 kept-own : {M : Type 0} (w : World M) (v : StoreView M) (a : ArenasView M) (p base frame from : ℕ) (called : Called) (cs : List ClauseTree) (s : State) (k : List Frame) (es : List EntryData) (kind : Kind) (y : EntryData) →
-    (own : OwnEntry w p base frame from called cs s k es) → Makes w p base frame from called cs s k kind y → w.arenas.blocks.kept ≡ slots_kept_by (newest (entries_of w)) →
+    (own : OwnEntry w p base frame from called cs s k es) → Makes w p base frame from called cs s k kind y → IsNoSearch y → w.arenas.blocks.kept ≡ slots_kept_by (newest (entries_of w)) →
     v ≡ w.store → a ≡ renamed w.arenas own.entry kind → CallKept w v a base kind y es
-kept-own w v a p base frame from called cs s k es kind y own makes kept store arenas =
+kept-own w v a p base frame from called cs s k es kind y own makes none kept store arenas =
     let top : ℕ = length w.arenas.collected in
     let x : Entry _ = own.entry in
     let b : ArenasView _ = renamed w.arenas x kind in
@@ -118,21 +118,21 @@ kept-own w v a p base frame from called cs s k es kind y own makes kept store ar
           (sym (back-renamed w own.below x kind own.all (omega (arith, own.is.level, open_level-within zero es, stack-length w own.below top es own.stack)))) own.agrees;
       under = own.stack;
       passes = renamed-passes w x kind own.below own.all;
-      stack = subst (λ m. StackIs (moved w w.store b) m top (y ∷ es)) (sym more) (stack-renamed w own.below es x own.stood y kind own.all own.at own.is own.stack kind_is);
+      stack = subst (λ m. StackIs (moved w w.store b) m top (y ∷ es)) (sym more) (stack-renamed w own.below es x own.stood y kind own.all own.at own.is own.stack kind_is (no-search-found w.store x.mark y none));
       kept = kept ∙ ap slots_kept_by first ∙ sym (ap slots_kept_by last);
     }))
 
 kept-either : {M : Type 0} (w : World M) (v : StoreView M) (a : ArenasView M) (p base frame from slots : ℕ) (called : Called) (cs : List ClauseTree) (s : State) (k : List Frame) (es : List EntryData) (again known : Bool) (kind : Kind) (y : EntryData) →
-    (is : CallIs w p base frame from called cs s k es known) → slots ≡ base + is.call.call.pred.arity → Makes w p base frame from called cs s k kind y →
+    (is : CallIs w p base frame from called cs s k es known) → slots ≡ base + is.call.call.pred.arity → Makes w p base frame from called cs s k kind y → IsNoSearch y →
     HasEntry w p base frame from called cs s k es again → KeepsCall w.order (between w.store v w.arenas a) (keeping slots base frame kind) again → CallKept w v a base kind y es
-kept-either w v a p base frame from slots called cs s k es again known kind y is at makes (no_entry same stands stack) (keeps_new push) =
-    kept-new w v a p base frame from slots called cs s k es known kind y is at makes same stands stack push
-kept-either w v a p base frame from slots called cs s k es again known kind y is at makes (own_entry own) (keeps_own store arenas) =
-    kept-own w v a p base frame from called cs s k es kind y own makes is.kept store (arenas own.entry (ap (entry_at (entries_of w)) own.all ∙ own.at))
+kept-either w v a p base frame from slots called cs s k es again known kind y is at makes none (no_entry same stands stack) (keeps_new push) =
+    kept-new w v a p base frame from slots called cs s k es known kind y is at makes none same stands stack push
+kept-either w v a p base frame from slots called cs s k es again known kind y is at makes none (own_entry own) (keeps_own store arenas) =
+    kept-own w v a p base frame from called cs s k es kind y own makes none is.kept store (arenas own.entry (ap (entry_at (entries_of w)) own.all ∙ own.at))
 
 -- a call is kept
 pub call-kept : {M : Type 0} (w : World M) (v : StoreView M) (a : ArenasView M) (p base frame from slots : ℕ) (called : Called) (cs : List ClauseTree) (s : State) (k : List Frame) (es : List EntryData) (again : Bool) (kind : Kind) (y : EntryData) →
-    (is : CallIs w p base frame from called cs s k es again) → slots ≡ base + is.call.call.pred.arity → Makes w p base frame from called cs s k kind y →
+    (is : CallIs w p base frame from called cs s k es again) → slots ≡ base + is.call.call.pred.arity → Makes w p base frame from called cs s k kind y → IsNoSearch y →
     KeepsCall w.order (between w.store v w.arenas a) (keeping slots base frame kind) again → CallKept w v a base kind y es
-call-kept w v a p base frame from slots called cs s k es again kind y is at makes keeps =
-    kept-either w v a p base frame from slots called cs s k es again again kind y is at makes is.entry keeps
+call-kept w v a p base frame from slots called cs s k es again kind y is at makes none keeps =
+    kept-either w v a p base frame from slots called cs s k es again again kind y is at makes none is.entry keeps

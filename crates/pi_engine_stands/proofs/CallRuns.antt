@@ -1,5 +1,5 @@
 -- A call of a predicate as a step of the machine.
-use Rattle.std.proofs.Common.{◌≡◌, ℕ, zero, suc, ◌+◌, ◌≤◌, ◌<◌, ◌^◌, Bool, true, false, List, [], ◌∷◌, ◌++◌, Option, Some, None, length, take, drop, map, get_or, refl, sym, ◌∙◌, ap, subst, arith}
+use Rattle.std.proofs.Common.{◌≡◌, ℕ, zero, suc, ◌+◌, ◌≤◌, ◌<◌, ◌^◌, Bool, true, false, ◌||◌, List, [], ◌∷◌, ◌++◌, Option, Some, None, length, take, drop, map, get_or, refl, sym, ◌∙◌, ap, subst, arith}
 use Rattle.std.specs.Prelude.{slice_get, slice_index_or, max}
 use Rattle.std.proofs.lemmas.List.{length-take-le, length-drop}
 use Rattle.std.proofs.lemmas.Option.{slice_get_within, get_or_from_slice_get}
@@ -9,6 +9,8 @@ use Rattle.pi_constraints.specs.Store.{StoreView}
 use Rattle.pi_constraints.specs.State.{State}
 use Rattle.pi_engine_stands.specs.Rests.{Rests}
 use Rattle.pi_meaning.specs.Shared.View.{View}
+use Rattle.pi_settling.specs.SolveCalls.{is_solve}
+use Rattle.pi_meaning.specs.Shared.Effects.{is_effect_name}
 use Rattle.pi_meaning.specs.Shared.Names.{is_given}
 use Rattle.pi_core.specs.CoreTree.{find_pred, PredTree, pred_tree}
 use Rattle.pi_constraints.specs.Evaluation.{evaluated, EvaluatedAll, evaluated_all}
@@ -140,9 +142,17 @@ gives-cut a x c base last is same cut keeps kept =
 pub gives-whole : (a c : BlocksView) (base : ℕ) (last : Bool) → last ≡ false → c ≡ a → GivesBack a c base last
 gives-whole a c base last is same = record { whole = λ not. same; cut = λ yes. absurd cc }
 
-pub said-last : (steps : List Step) (place : ℕ) (g : GoalTree) (name : List ℕ) (args : List Tree) (own : Bool) (s : Step) → g ≡ call name args → SayLast steps place g own → slice_get steps place ≡ Some s → s.is_last ≡ own
+pub said-last : (steps : List Step) (place : ℕ) (g : GoalTree) (name : List ℕ) (args : List Tree) (own : Bool) (s : Step) → g ≡ call name args → is_solve name (length args) ≡ false → SayLast steps place g own → slice_get steps place ≡ Some s → s.is_last ≡ own
 unfolding SayLast
-said-last steps place g name args own s is says at = subst (λ h. SayLast steps place h own) is says s at
+said-last steps place g name args own s is other says at = subst (λ h. SayLast steps place h own) is says other s at
+
+or-right : (x y : Bool) → (x || y) ≡ false → y ≡ false
+or-right true y h = absurd cc
+or-right false y h = h
+
+-- a predicate of the program isn't `solve`
+pub calls-no-solve : (pred : PredTree) (args : List Tree) → length args ≡ pred.arity → IsNotBuiltIn false pred.name pred.arity → is_solve pred.name (length args) ≡ false
+calls-no-solve pred args many not = ap (is_solve pred.name) many ∙ or-right (is_effect_name pred.name pred.arity) (is_solve pred.name pred.arity) not.0
 
 pub room-of : (a c : BlocksView) (b : Block) (leaves last own : Bool) (base : ℕ) (k : List Frame) → b.base ≡ base → base ≤ length a.slots → a.kept ≤ length a.slots → last ≡ own → LeftBehind None own leaves k → GivesBack a c base last → (limit : ℕ) × Room a c b leaves limit
 room-of a c b leaves false own base k begins fits over same left gives = (length a.slots, kept_whole (gives.whole refl) refl)
@@ -189,7 +199,8 @@ call-runs w v a fs c d rs p s q operands n predicate view g gs e k es calls at s
     let stack2 : StackStands (with_new_frames w1 fs) es = stack-framed w1 fs es more stack1 in
     let in_it : Entered (with_new_frames w1 fs) p n g all.slots (behind gs k) = entered-behind w1 p s g gs all.slots k fs n at more pushes going1 in
     let count : tree_count all.trees ≡ predicate.arity = all-count T operands predicate.arity e w.store.now.state readable.0 in
-    let last : s.is_last ≡ in_it.at.own = said-last (steps_of w.loaded) p.place g calls.it.pred.name args in_it.at.own s calls.goal_is in_it.at.here.says at in
+    let last : s.is_last ≡ in_it.at.own = said-last (steps_of w.loaded) p.place g calls.it.pred.name args in_it.at.own s calls.goal_is
+    (calls-no-solve calls.it.pred args (args-count T operands predicate.arity readable.0 ∙ calls.it.arity) calls.it.not_built) in_it.at.here.says at in
     let room : (limit : ℕ) × Room a.blocks c in_it.block in_it.at.leaves limit =
     room-of a.blocks c in_it.block in_it.at.leaves s.is_last in_it.at.own p.base (behind gs k) in_it.base (omega (arith, in_it.base, in_it.slots.within)) (kept-within (with_new_frames w1 fs) es stack2) last in_it.at.own_leaves gives in
     let caller : Caller (with_new_frames w1 fs) in_it.block in_it.at.leaves n all.slots (behind gs k) es =

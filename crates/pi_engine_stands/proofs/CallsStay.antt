@@ -23,6 +23,8 @@ stay-leaves w v n keeps =
       frames = λ i x h at fit. (fit, refl);
       collected = refl;
       enough = omega arith;
+      beside = keeps.beside;
+      names = keeps.names;
     }
 
 pub stay-moves : {M : Type 0} (w : World M) (v : StoreView M) (limit m : ℕ) → Keeps w.store v → limit ≤ length w.arenas.blocks.slots → Moves (now_here w) (now_here (moved w v w.arenas)) limit m

@@ -29,6 +29,8 @@ below-leaves w b limit n keeps =
       frames = λ i x h at fit. (subst (λ fs. x.back.frames ≤ length fs) (sym keeps.frames) fit, ap (take x.back.frames) keeps.frames);
       collected = ap (take (length w.arenas.collected)) (sym keeps.collected);
       enough = subst (λ r. length w.arenas.collected ≤ length r) (sym keeps.collected) (omega arith);
+      beside = λ m. refl;
+      names = λ k name has. has;
     }
 
 pub below-ends : {M : Type 0} (w : World M) (b : ArenasView M) (limit : ℕ) → KeepsBelow w.arenas b limit → level_ends w w.arenas.level ≡ level_ends (moved w w.store b) b.level

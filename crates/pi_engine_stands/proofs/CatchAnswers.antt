@@ -22,7 +22,7 @@ use Rattle.pi_meaning.specs.Machine.Configuration.{Frame, Entry as EntryData, Co
 use Rattle.pi_meaning.specs.Machine.Step.{silently, step, leave, answer_step, newest_open, Open, none_open, strict_open, catch_open, beneath}
 use Rattle.pi_meaning.specs.Machine.Shape.{open_level, IsBalanced}
 use Rattle.pi_engine_stands.specs.Here.{Here, Block, in_block, Holds}
-use Rattle.pi_engine_stands.specs.Stands.{tables_in, World, Loaded, steps_of, entries_of, level_ends, back_here, now_here, agrees_from, Agrees, block_at, entry_ends, ends_of, KindIs, once_kind, not_kind, if_kind, guard_kind, apply_kind, collect_kind, count_kind, catch_kind, exit_kind, GoalStands, EntryIs, IsAbove, StackIs, StackStands, Stands, going_now, StandsGoing, GoingIs}
+use Rattle.pi_engine_stands.specs.Stands.{tables_in, World, Loaded, steps_of, entries_of, level_ends, back_here, now_here, agrees_from, Agrees, block_at, entry_ends, ends_of, KindIs, once_kind, not_kind, if_kind, guard_kind, apply_kind, collect_kind, count_kind, search_kind, catch_kind, exit_kind, GoalStands, EntryIs, IsAbove, StackIs, StackStands, Stands, going_now, StandsGoing, GoingIs}
 use Rattle.pi_engine_stands.specs.Makes.{SilentlyTo, already, one_more}
 use Rattle.pi_terms.proofs.ListLemmas.{take-take}
 use Rattle.pi_engine_stands.proofs.ProgramStands.{code-keeps}
@@ -63,6 +63,7 @@ no-strict l c h t base frame slots from to place kind s b named (guard_kind call
 no-strict l c h t base frame slots from to place kind s b named (apply_kind own free args fit one) = cc
 no-strict l c h t base frame slots from to place kind s b named (collect_kind own order some) = cc
 no-strict l c h t base frame slots from to place kind s b named (count_kind own one) = cc
+no-strict l c h t base frame slots from to place kind s b named (search_kind own labels held fit order one) = cc
 
 catch-found-in : {M : Type 0} (w : World M) (i level place : ℕ) (x : Entry M) (o : Open) (es : List EntryData) → slice_get (entries_of w) i ≡ Some x → x.back.kind ≡ Kind.Catch place → newest_open zero es ≡ o → level ≡ suc i →
     OpenAt w (length w.arenas.collected) o level → FoundCatch w i x es
@@ -217,7 +218,7 @@ exit-leaves : {M : Type 0} (w : World M) (v : StoreView M) (mark : M) (back : Ba
 exit-leaves w v mark back es stands marks =
     let it : Leaves w v (pushed w.arenas mark (length w.arenas.blocks.slots) back.base back.frame Kind.Exit) (length (entries_of w)) (length w.arenas.collected) =
     pushed-leaves w v mark (length w.arenas.blocks.slots) back.base back.frame (length (entries_of w)) Kind.Exit (omega arith) (kept-within w es stands) marks.stays.keeps in
-    record { entries = it.entries; marks = it.marks; blocks = it.blocks; frames = it.frames; collected = it.collected; enough = it.enough }
+    record { entries = it.entries; marks = it.marks; blocks = it.blocks; frames = it.frames; collected = it.collected; enough = it.enough; beside = it.beside; names = it.names }
 
 exit-stack : {M : Type 0} (w : World M) (v : StoreView M) (mark : M) (back : Back) (es : List EntryData) → StackStands w es → Marks w.order w.store v mark → Agrees w w.arenas.level (now_here w) → back.level ≡ open_level zero (left ∷ es) →
     StackStands (moved w v (exited w.arenas mark back)) (left ∷ es)
@@ -229,7 +230,7 @@ exit-stack w v mark back es stands marks agrees level =
     let more : length (entries_of w ++ x ∷ []) ≡ suc m = length-append (entries_of w) (x ∷ []) ∙ omega arith in
     let is : StackIs (with_entry w v mark slots back.base back.frame Kind.Exit) (suc m) top (left ∷ es) =
     stack-pushed w v mark slots back.base back.frame top Kind.Exit left es stands marks (kept-within w es stands) (omega arith) (omega arith) (base-fits-in w (entry_at (entries_of w) w.arenas.level) agrees) agrees
-    (exit_kind refl) stands.stack in
+    (exit_kind refl) tt stands.stack in
     record {
       code = code-keeps w.loaded.code (tables_in w.loaded) w.store.names v.names w.loaded.preds (λ i name has. marks.stays.keeps.names i name has) stands.code;
       state = subst Rests (sym marks.stays.state) stands.state;
@@ -238,7 +239,7 @@ exit-stack w v mark back es stands marks agrees level =
       kept = ap slots_kept_by (sym (newest-last (entries_of w) x));
       stack = subst (λ q. StackIs (moved w v (exited w.arenas mark back)) q top (left ∷ es)) (sym more)
           (stack-moves (with_entry w v mark slots back.base back.frame Kind.Exit) v (exited w.arenas mark back) (suc m) top (suc m) top (left ∷ es)
-          (record { entries = refl; marks = λ i z h at good. (good, refl); blocks = λ i z h at kept. (kept, refl); frames = λ i z h at fit. (fit, refl); collected = refl; enough = omega arith })
+          (record { entries = refl; marks = λ i z h at good. (good, refl); blocks = λ i z h at kept. (kept, refl); frames = λ i z h at fit. (fit, refl); collected = refl; enough = omega arith; beside = λ m. refl; names = λ k name has. has })
           (omega arith) (omega arith) is);
     }
 

@@ -44,7 +44,7 @@ pub catch-step : {M : Type 0} (w : World M) (v : StoreView M) (mark : M) (p : Po
 unfolding children SayLast open_level
 catch-step w v mark p s fs n c h ball gs e k es pushed marks stands again =
     enter w v mark p s fs n (Kind.Catch p.place) (catch_level (evaluated ball e w.store.now.state).tree h (back_to e w.store.now.state (behind gs k))) (catch c ball h) c (goal h no_goals) gs e k es pushed marks refl (λ own is. is.1) refl refl
-    (λ is. catch_kind is again refl) stands
+    (λ is. catch_kind is again refl) tt stands
 
 pub catch-has-child : (c h : GoalTree) (ball : Tree) → 0 < child_count (catch c ball h)
 unfolding children count_goals

@@ -28,7 +28,7 @@ use Rattle.pi_engine_arenas.specs.Arenas.{ArenasView, DropsNewest, between}
 use Rattle.pi_meaning.specs.Machine.Configuration.{Frame, Entry as EntryData, config, raising, settling}
 use Rattle.pi_meaning.specs.Machine.Step.{raise_step, handler_step}
 use Rattle.pi_engine_stands.specs.Here.{Block, SayLast, Holds}
-use Rattle.pi_engine_stands.specs.Stands.{World, tables_in, steps_of, now_here, block_at, Agrees, GoalStands, KindIs, rules_kind, facts_kind, branches_kind, alternatives_kind, once_kind, not_kind, if_kind, guard_kind, apply_kind, collect_kind, count_kind, catch_kind, exit_kind, StackStands, Stands, NowIs, raising_now, GoingIs}
+use Rattle.pi_engine_stands.specs.Stands.{World, tables_in, steps_of, now_here, block_at, Agrees, GoalStands, KindIs, rules_kind, facts_kind, branches_kind, alternatives_kind, once_kind, not_kind, if_kind, guard_kind, apply_kind, collect_kind, count_kind, search_kind, catch_kind, exit_kind, StackStands, Stands, NowIs, raising_now, GoingIs}
 use Rattle.pi_engine_stands.specs.Evaluates.{Writes, Evaluates}
 use Rattle.pi_engine_stands.specs.Fails.{ComesTo, IsBack}
 use Rattle.pi_engine_stands.specs.Raises.{TellsCaught}
@@ -166,6 +166,7 @@ caught-in w u c back collected from place at_child slots code s kind ball next_n
 caught-in w u c back collected from place at_child slots code s kind ball next_now now y es it named is_code step finds tells follows_it (apply_kind own free args fit one) = absurd cc
 caught-in w u c back collected from place at_child slots code s kind ball next_now now y es it named is_code step finds tells follows_it (collect_kind own order some) = absurd cc
 caught-in w u c back collected from place at_child slots code s kind ball next_now now y es it named is_code step finds tells follows_it (count_kind own one) = absurd cc
+caught-in w u c back collected from place at_child slots code s kind ball next_now now y es it named is_code step finds tells follows_it (search_kind own labels held fit order one) = absurd cc
 caught-in w u c back collected from place at_child slots code s kind ball next_now now y es it named is_code step finds tells follows_it (catch_kind {place = at} {g = g} {handler = h} {wanted = wanted} {e = e} {k = k} own stays one) =
     let same : place ≡ at = cc in
     let stands : StackStands w es = popped-stands w back collected from y es it one in

@@ -30,7 +30,7 @@ use Rattle.pi_meaning.specs.Machine.Configuration.{Frame, Entry as EntryData, Co
 use Rattle.pi_meaning.specs.Machine.Step.{strict_step}
 use Rattle.pi_meaning.specs.Machine.Shape.{IsBalanced}
 use Rattle.pi_engine_stands.specs.Here.{Here, Block, Holds, NodeIsReadable}
-use Rattle.pi_engine_stands.specs.Stands.{World, Loaded, tables_in, steps_of, entries_of, back_here, block_at, values_between, GoalStands, KindIs, once_kind, not_kind, if_kind, guard_kind, apply_kind, collect_kind, count_kind, StackStands, Stands, StandsGoing, failing_now, raising_now}
+use Rattle.pi_engine_stands.specs.Stands.{World, Loaded, tables_in, steps_of, entries_of, back_here, block_at, values_between, GoalStands, KindIs, once_kind, not_kind, if_kind, guard_kind, apply_kind, collect_kind, count_kind, search_kind, StackStands, Stands, StandsGoing, failing_now, raising_now}
 use Rattle.pi_engine_arenas.specs.Frames.{slot_number}
 use Rattle.pi_engine_stands.specs.Evaluates.{Evaluates}
 use Rattle.pi_engine_stands.specs.Makes.{SilentlyTo}
@@ -99,6 +99,7 @@ collects-at l c h t base frame slots from place first kind s b named (collect_ki
       starts,
     )
 collects-at l c h t base frame slots from place first kind s b named (count_kind own one) = absurd cc
+collects-at l c h t base frame slots from place first kind s b named (search_kind own labels held fit order one) = absurd cc
 
 same-value : (node : Node) (v i a b : ℕ) → node ≡ Node.Collect v i → node ≡ Node.Collect a b → v ≡ a
 same-value node v i a b h k = cc
@@ -128,6 +129,7 @@ waits-more l c h t base frame slots from place first kind s b x value into got n
     (ap (list_level v i) (values-more c from x order ∙ ap (λ xs. xs ++ x ∷ []) same_got) ∙ ap (λ n. list_level n i (got ++ x ∷ [])) same_value ∙ ap (λ n. list_level value n (got ++ x ∷ [])) same_into)
     (collect_kind own (omega (arith, order, length-append c (x ∷ []))) (omega arith))
 waits-more l c h t base frame slots from place first kind s b x value into got named is (count_kind own one) = absurd cc
+waits-more l c h t base frame slots from place first kind s b x value into got named is (search_kind own labels held fit order one) = absurd cc
 
 same-kind : {M : Type 0} (x : Entry M) → with_kind x x.back.kind ≡ x
 same-kind x = refl
@@ -153,6 +155,7 @@ collect-stands w i place first value into x s b t got above below at named is cl
       more = take-append-le top c (t ∷ []) (omega arith) ∙ take_all top c (omega arith);
       long = omega (arith, length-append c (t ∷ []));
       waits = λ from kind_is. waits-more w.loaded c (back_here w x) (w.store.at_mark x.mark).state x.back.base x.back.frame x.back.blocks.slots from place first x.back.kind s b t value into got named is kind_is;
+      found = λ has. tt;
     }) closed number stands)
 
 -- what the code makes of a value: it is collected, or is too large

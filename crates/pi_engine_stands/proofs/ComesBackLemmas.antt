@@ -6,7 +6,7 @@ use Rattle.pi_constraints.specs.State.{State}
 use Rattle.pi_engine_arenas.specs.declared.arenas.Kind.{Kind}
 use Rattle.pi_meaning.specs.Machine.Configuration.{Entry as EntryData}
 use Rattle.pi_engine_stands.specs.Here.{Here}
-use Rattle.pi_engine_stands.specs.Stands.{Loaded, World, entries_of, back_here, KindIs, rules_kind, facts_kind, branches_kind, alternatives_kind, once_kind, not_kind, if_kind, guard_kind, apply_kind, collect_kind, count_kind, catch_kind, exit_kind, StackIs, no_entries, entry_above}
+use Rattle.pi_engine_stands.specs.Stands.{Loaded, World, entries_of, back_here, KindIs, rules_kind, facts_kind, branches_kind, alternatives_kind, once_kind, not_kind, if_kind, guard_kind, apply_kind, collect_kind, count_kind, search_kind, catch_kind, exit_kind, StackIs, no_entries, entry_above}
 use Rattle.pi_engine_stands.specs.ComesBack.{IsMadeIn, KeepsOneMark, EntriesKeepOneMark, ReturnsToTheMaking}
 use Rattle.pi_engine_stands.proofs.StandsLemmas.{moved, stack-length}
 use Rattle.pi_engine_stands.proofs.BackStand.{CameBack, came-back, back-kind}
@@ -24,6 +24,7 @@ made-in l collected h s base frame slots from to k y (guard_kind stands few none
 made-in l collected h s base frame slots from to k y (apply_kind stands own args behind none) = refl
 made-in l collected h s base frame slots from to k y (collect_kind stands some few) = refl
 made-in l collected h s base frame slots from to k y (count_kind stands none) = refl
+made-in l collected h s base frame slots from to k y (search_kind own labels held fit order one) = refl
 made-in l collected h s base frame slots from to k y (catch_kind stands same none) = refl
 made-in l collected h s base frame slots from to k y (exit_kind none) = tt
 

@@ -21,7 +21,7 @@ use Rattle.pi_engine_arenas.specs.Arenas.{ArenasView, DropsNewest}
 use Rattle.pi_meaning.specs.Machine.Configuration.{Frame, Entry as EntryData, Strict, strict, number_level, Back as BackData, config, going}
 use Rattle.pi_meaning.specs.Machine.Step.{end_step}
 use Rattle.pi_engine_stands.specs.Here.{NodeIsReadable}
-use Rattle.pi_engine_stands.specs.Stands.{World, tables_in, steps_of, now_here, block_at, GoalStands, KindIs, once_kind, not_kind, if_kind, guard_kind, apply_kind, collect_kind, count_kind, Stands}
+use Rattle.pi_engine_stands.specs.Stands.{World, tables_in, steps_of, now_here, block_at, GoalStands, KindIs, once_kind, not_kind, if_kind, guard_kind, apply_kind, collect_kind, count_kind, search_kind, Stands}
 use Rattle.pi_engine_arenas.specs.Frames.{slot_number}
 use Rattle.pi_engine_stands.specs.Evaluates.{with_blocks}
 use Rattle.pi_engine_stands.specs.Fails.{IsBack}
@@ -80,6 +80,7 @@ counts-at w back collected from to place n slots kind s b named (count_kind {pla
       record { goal = g; into = into; slots = e; frames = k; own = subst (λ q. GoalStands w.loaded (now_here w) back.base q back.frame (count g into) e k) same own; level = ap (number_level into) many; back_is = refl },
       one,
     )
+counts-at w back collected from to place n slots kind s b named (search_kind own labels held fit order one) = absurd cc
 
 -- its step
 step-of-count : {M : Type 0} (w : World M) (back : Back) (place n : ℕ) (code : Code) (step : Step) (s : Strict) (b : BackData) → (it : CountsAt w back place n s b) → w.loaded.code ≡ code → ((r : Step) → slice_get code.steps.items place ≡ Some r → step ≡ r) →

@@ -18,7 +18,7 @@ use Rattle.pi_meaning.specs.Machine.Configuration.{Frame, Entry as EntryData, Co
 use Rattle.pi_meaning.specs.Machine.Step.{Open, strict_open, newest_open, strict_step}
 use Rattle.pi_meaning.specs.Machine.Shape.{IsBalanced}
 use Rattle.pi_engine_stands.specs.Here.{Here}
-use Rattle.pi_engine_stands.specs.Stands.{World, Loaded, entries_of, ends_of, back_here, block_at, KindIs, once_kind, not_kind, if_kind, guard_kind, apply_kind, collect_kind, count_kind, StackStands, Stands, StandsGoing, failing_now}
+use Rattle.pi_engine_stands.specs.Stands.{World, Loaded, entries_of, ends_of, back_here, block_at, KindIs, once_kind, not_kind, if_kind, guard_kind, apply_kind, collect_kind, count_kind, search_kind, StackStands, Stands, StandsGoing, failing_now}
 use Rattle.pi_engine_stands.specs.Makes.{SilentlyTo}
 use Rattle.pi_meaning.proofs.Machine.StackLemmas.{IsFound, IsClosed, newest-found}
 use Rattle.pi_engine_stands.proofs.StandsLemmas.{moved, stack-length}
@@ -69,6 +69,7 @@ counts-more l c h t base frame slots from to place n kind s b named (count_kind 
       ap (number_level into) many,
       subst (λ q. KindIs l c h t base frame slots from to (Kind.Strict (StrictKind.Count q (suc n))) (strict (number_level into (suc n)) (record { slots = e; state = t; frames = k }))) same (count_kind own one),
     )
+counts-more l c h t base frame slots from to place n kind s b named (search_kind own labels held fit order one) = absurd cc
 
 one-into : (a b n : ℕ) → number_level a n ≡ number_level b n → a ≡ b
 one-into a b n h = cc
@@ -87,6 +88,7 @@ count-stands w i place n into x s b above below at named is closed number stands
           (let it : _ = counts-more w.loaded w.arenas.collected (back_here w x) (w.store.at_mark x.mark).state x.back.base x.back.frame x.back.blocks.slots from (length w.arenas.collected) place n x.back.kind s b named kind_is in
           subst (λ m. KindIs w.loaded w.arenas.collected (back_here w x) (w.store.at_mark x.mark).state x.back.base x.back.frame x.back.blocks.slots from (length w.arenas.collected) (Kind.Strict (StrictKind.Count place (suc n))) (strict (number_level m (suc n)) b))
           (one-into it.0 into n (sym it.1 ∙ is)) it.2);
+      found = λ has. tt;
     }) closed number stands
 
 count-step : (into n : ℕ) (s : Strict) (e : Places) (t : State) (above : List EntryData) (b : BackData) (below : List EntryData) → s ≡ number_level into n → strict_step s e t above b below ≡ config failed (above ++ strict (number_level into (suc n)) b ∷ below)

@@ -17,7 +17,7 @@ use Rattle.pi_engine_arenas.specs.Arenas.{ArenasView, DropsNewest}
 use Rattle.pi_meaning.specs.Machine.Configuration.{Frame, Entry as EntryData, Strict, strict, Back as BackData}
 use Rattle.pi_meaning.specs.Machine.Step.{end_step, fail_step}
 use Rattle.pi_engine_stands.specs.Here.{Block, Here, SayLast, IsHere, none_here, last_here}
-use Rattle.pi_engine_stands.specs.Stands.{World, Loaded, tables_in, steps_of, now_here, block_at, Agrees, GoalStands, KindIs, rules_kind, facts_kind, branches_kind, alternatives_kind, once_kind, not_kind, if_kind, guard_kind, apply_kind, collect_kind, count_kind, catch_kind, exit_kind, Stands, going_now, failing_now, GoingIs}
+use Rattle.pi_engine_stands.specs.Stands.{World, Loaded, tables_in, steps_of, now_here, block_at, Agrees, GoalStands, KindIs, rules_kind, facts_kind, branches_kind, alternatives_kind, once_kind, not_kind, if_kind, guard_kind, apply_kind, collect_kind, count_kind, search_kind, catch_kind, exit_kind, Stands, going_now, failing_now, GoingIs}
 use Rattle.pi_engine_stands.specs.Makes.{IsPassed}
 use Rattle.pi_engine_stands.specs.Fails.{ComesTo, IsBack}
 use Rattle.pi_engine_code.proofs.CodeLemmas.{stands-child, nodes-fit, child_place-first, child_place-more}
@@ -149,6 +149,7 @@ passes w back collected from h t base frame slots kind y es it passed (guard_kin
 passes w back collected from h t base frame slots kind y es it passed (apply_kind own free args fit one) = absurd passed
 passes w back collected from h t base frame slots kind y es it passed (collect_kind own order some) = absurd passed
 passes w back collected from h t base frame slots kind y es it passed (count_kind own one) = absurd passed
+passes w back collected from h t base frame slots kind y es it passed (search_kind own labels held fit order one) = absurd passed
 passes w back collected from h t base frame slots kind y es it passed (catch_kind own stays one) = record { entries = stack-lies w es (popped-stands w back collected from y es it one); runs = failing_now }
 passes w back collected from h t base frame slots kind y es it passed (exit_kind one) = record { entries = stack-lies w es (popped-stands w back collected from y es it one); runs = failing_now }
 
@@ -172,6 +173,7 @@ not-ends-in w back collected from place kind s b es it named (guard_kind call fi
 not-ends-in w back collected from place kind s b es it named (apply_kind own free args fit one) = absurd cc
 not-ends-in w back collected from place kind s b es it named (collect_kind own order some) = absurd cc
 not-ends-in w back collected from place kind s b es it named (count_kind own one) = absurd cc
+not-ends-in w back collected from place kind s b es it named (search_kind own labels held fit order one) = absurd cc
 
 pub not-ends : {M : Type 0} (w : World M) (c : ArenasView M) (back : Back) (place : ℕ) (s : Strict) (b : BackData) (es : List EntryData) → back.kind ≡ Kind.Strict (StrictKind.Not place) →
     IsBack w back (strict s b) es → DropsNewest w.arenas c → Stands (moved w w.store c) (Now.Going (record { place = 0; count = 0; base = back.base; frame = back.frame })) (end_step s b es)
@@ -201,6 +203,7 @@ if-ends-in w back collected from place at_child code kind s b es it named is_cod
 if-ends-in w back collected from place at_child code kind s b es it named is_code finds (apply_kind own free args fit one) = absurd cc
 if-ends-in w back collected from place at_child code kind s b es it named is_code finds (collect_kind own order some) = absurd cc
 if-ends-in w back collected from place at_child code kind s b es it named is_code finds (count_kind own one) = absurd cc
+if-ends-in w back collected from place at_child code kind s b es it named is_code finds (search_kind own labels held fit order one) = absurd cc
 
 pub if-ends : {M : Type 0} (w : World M) (c : ArenasView M) (back : Back) (place at_child : ℕ) (code : Code) (s : Strict) (b : BackData) (es : List EntryData) → back.kind ≡ Kind.Strict (StrictKind.If place) → w.loaded.code ≡ code →
     ((terms : ℕ → Option Tree) (h : GoalTree) → StandsAt (tables_of terms code) code.steps.items place h → 2 < child_count h → at_child ≡ child_place h place 2) →

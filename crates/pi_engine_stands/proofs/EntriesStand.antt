@@ -13,7 +13,7 @@ use Rattle.pi_meaning.specs.Machine.Configuration.{Entry as EntryData}
 use Rattle.pi_engine_stands.specs.Here.{Here}
 use Rattle.pi_engine_stands.specs.Stands.{World, entries_of, entry_ends, level_ends, back_here, now_here, Agrees, agrees_from, KindIs, IsAbove, StackIs, entry_above, StackStands}
 use Rattle.pi_terms.proofs.ListLemmas.{take-take}
-use Rattle.pi_engine_stands.proofs.StandsLemmas.{moved, here_of, Leaves, stack-moves, stack-length, open_level-within, agrees-moves, above-moves, entry-facts, EntryFacts, entry_at-take}
+use Rattle.pi_engine_stands.proofs.StandsLemmas.{moved, here_of, Leaves, stack-moves, stack-length, open_level-within, agrees-moves, above-moves, entry-facts, EntryFacts, entry_at-take, HasNoFound, found-none}
 
 -- what such an entry comes back to
 abbrev pub marked_here : {M : Type 0} → World M → ℕ → Here
@@ -34,6 +34,8 @@ pushed-leaves w v mark slots base frame n kind fit more keeps =
       frames = λ i x h at few. (few, refl);
       collected = refl;
       enough = omega arith;
+      beside = keeps.beside;
+      names = keeps.names;
     }
 
 -- what it comes back to is what is there now
@@ -83,10 +85,10 @@ above-newest w v mark slots base frame kind (suc i) to es all stack more marks =
 pub stack-pushed : {M : Type 0} (w : World M) (v : StoreView M) (mark : M) (slots base frame from : ℕ) (kind : Kind) (y : EntryData) (es : List EntryData) →
     StackStands w es → Marks w.order w.store v mark → w.arenas.blocks.kept ≤ slots → slots ≤ length w.arenas.blocks.slots → from ≤ length w.arenas.collected →
     ((x : Entry M) → entry_at (entries_of w) w.arenas.level ≡ Some x → x.back.base ≤ slots) → Agrees w w.arenas.level (now_here w) →
-    KindIs w.loaded w.arenas.collected (marked_here w slots) w.store.now.state base frame slots from (length w.arenas.collected) kind y →
+    KindIs w.loaded w.arenas.collected (marked_here w slots) w.store.now.state base frame slots from (length w.arenas.collected) kind y → HasNoFound y →
     StackIs w (length (entries_of w)) from es →
     StackIs (with_entry w v mark slots base frame kind) (suc (length (entries_of w))) (length w.arenas.collected) (y ∷ es)
-stack-pushed w v mark slots base frame from kind y es stands marks more within some fit agrees is below =
+stack-pushed w v mark slots base frame from kind y es stands marks more within some fit agrees is new below =
     let n : ℕ = length (entries_of w) in
     let x : Entry _ = new_entry w.arenas mark slots base frame kind in
     let after : World _ = with_entry w v mark slots base frame kind in
@@ -110,6 +112,7 @@ stack-pushed w v mark slots base frame from kind y es stands marks more within s
       older = above-moves w v (pushed w.arenas mark slots base frame kind) (entry_at (entries_of w) n) (entry_at (entries_of w ++ x ∷ []) n) x
           (entry_at-take (entries_of w) (entries_of w ++ x ∷ []) n n (omega arith) front)
           (above-newest w v mark slots base frame kind n from es refl below (omega (arith, stands.kept, more)) marks);
+      found = found-none v mark y marks.nothing new;
     })
     (stack-moves w v (pushed w.arenas mark slots base frame kind) n (length w.arenas.collected) n from es
     (pushed-leaves w v mark slots base frame n kind (omega arith) more marks.stays.keeps) (omega arith) some below)

@@ -219,7 +219,7 @@ later-kept w x b p base frame from number slots pred predicate ts cs s k es agai
     (record {
       after = stack-kept w x b base (Kind.Facts p n) (choice (facts_left ts (first.fact ∷ first.behind)) (back_to [] s k)) es
           (call-kept w x b p base frame from slots (record { function = false; args = ts }) cs s k es again (Kind.Facts p n) (choice (facts_left ts (first.fact ∷ first.behind)) (back_to [] s k)) is fits
-          (later-made w p base frame from n ts cs (first.fact ∷ first.behind) s k pred predicate at there (omega (arith, low, first.from_on)) (sym first.here)) leaves);
+          (later-made w p base frame from n ts cs (first.fact ∷ first.behind) s k pred predicate at there (omega (arith, low, first.from_on)) (sym first.here)) tt leaves);
       opens = refl;
     })
 

@@ -14,7 +14,7 @@ use Rattle.pi_meaning.specs.Machine.Configuration.{Entry as EntryData, choice, b
 use Rattle.pi_meaning.specs.Machine.Step.{Outcome, silently, with_tick, quietly, deeper, loading, writing, answering, ending, branch, alternatives_step, end_step, fail_step}
 use Rattle.pi_engine_stands.specs.Goes.{Counting}
 use Rattle.pi_engine_stands.specs.Here.{Here}
-use Rattle.pi_engine_stands.specs.Stands.{World, Loaded, now_here, KindIs, rules_kind, facts_kind, branches_kind, alternatives_kind, once_kind, not_kind, if_kind, guard_kind, apply_kind, collect_kind, count_kind, catch_kind, exit_kind, Stands}
+use Rattle.pi_engine_stands.specs.Stands.{World, Loaded, now_here, KindIs, rules_kind, facts_kind, branches_kind, alternatives_kind, once_kind, not_kind, if_kind, guard_kind, apply_kind, collect_kind, count_kind, search_kind, catch_kind, exit_kind, Stands}
 use Rattle.pi_engine_stands.specs.Fails.{ComesTo, ComesBy, IsBack, GoesOnWithBranch, EndsLevel, TriesAlternative}
 use Rattle.pi_engine_stands.proofs.BackStand.{back-kind}
 use Rattle.pi_engine_stands.specs.Changes.{change}
@@ -37,6 +37,7 @@ branches-are l c h t base frame slots from to place n kind y named (guard_kind c
 branches-are l c h t base frame slots from to place n kind y named (apply_kind own free args fit one) = absurd cc
 branches-are l c h t base frame slots from to place n kind y named (collect_kind own order some) = absurd cc
 branches-are l c h t base frame slots from to place n kind y named (count_kind own one) = absurd cc
+branches-are l c h t base frame slots from to place n kind y named (search_kind own labels held fit order one) = absurd cc
 branches-are l c h t base frame slots from to place n kind y named (catch_kind own stays one) = absurd cc
 branches-are l c h t base frame slots from to place n kind y named (exit_kind one) = absurd cc
 
@@ -63,6 +64,7 @@ strict-is l c h t base frame slots from to kind s y named (guard_kind call fits 
 strict-is l c h t base frame slots from to kind s y named (apply_kind own free args fit one) = (_, _, refl)
 strict-is l c h t base frame slots from to kind s y named (collect_kind own order some) = (_, _, refl)
 strict-is l c h t base frame slots from to kind s y named (count_kind own one) = (_, _, refl)
+strict-is l c h t base frame slots from to kind s y named (search_kind own labels held fit order one) = (_, _, refl)
 strict-is l c h t base frame slots from to kind s y named (catch_kind own stays one) = absurd cc
 strict-is l c h t base frame slots from to kind s y named (exit_kind one) = absurd cc
 
@@ -96,6 +98,7 @@ alternatives-are l c h t base frame slots from to place left kind y named (guard
 alternatives-are l c h t base frame slots from to place left kind y named (apply_kind own free args fit one) = absurd cc
 alternatives-are l c h t base frame slots from to place left kind y named (collect_kind own order some) = absurd cc
 alternatives-are l c h t base frame slots from to place left kind y named (count_kind own one) = absurd cc
+alternatives-are l c h t base frame slots from to place left kind y named (search_kind own labels held fit order one) = absurd cc
 alternatives-are l c h t base frame slots from to place left kind y named (catch_kind own stays one) = absurd cc
 alternatives-are l c h t base frame slots from to place left kind y named (exit_kind one) = absurd cc
 

@@ -48,6 +48,8 @@ follows-leaves w b p next es stands follows =
           ));
       collected = ap (take (length w.arenas.collected)) (sym follows.collected);
       enough = omega (arith, ap length follows.collected);
+      beside = λ m. refl;
+      names = λ k name has. has;
     }
 
 pub stack-follows : {M : Type 0} (w : World M) (b : ArenasView M) (p next : Point) (es : List EntryData) → StackStands w es → FollowsFrame w.arenas b p next →

@@ -60,6 +60,8 @@ frames-leave w fs n more =
       frames = λ i x h at fit. (omega (arith, fit, more.long), more.front x.back.frames fit);
       collected = refl;
       enough = omega arith;
+      beside = λ m. refl;
+      names = λ k name has. has;
     }
 
 pub stack-framed : {M : Type 0} (w : World M) (fs : List Point) (es : List EntryData) → MoreFrames w.arenas.frames fs → StackStands w es → StackStands (with_new_frames w fs) es

@@ -96,6 +96,8 @@ returns-leave w b m slots top back es within stack some is_back returns =
           );
       collected = ap (take top) (sym returns.collected);
       enough = subst (λ r. top ≤ length r) (sym returns.collected) some;
+      beside = λ m. refl;
+      names = λ k name has. has;
     }
 
 -- ---- the call that the level comes back to

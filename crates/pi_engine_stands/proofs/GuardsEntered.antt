@@ -72,7 +72,7 @@ pub stack-open : {M : Type 0} (w : World M) (es : List EntryData) → StackIs w 
     StackIs (moved w w.store (opened w.arenas)) (length (entries_of w)) (length w.arenas.collected) es
 stack-open w es is =
     stack-moves w w.store (opened w.arenas) (length (entries_of w)) (length w.arenas.collected) (length (entries_of w)) (length w.arenas.collected) es
-    (record { entries = refl; marks = λ i x h at good. (good, refl); blocks = λ i x h at kept. (kept, refl); frames = λ i x h at fit. (fit, refl); collected = refl; enough = omega arith })
+    (record { entries = refl; marks = λ i x h at good. (good, refl); blocks = λ i x h at kept. (kept, refl); frames = λ i x h at fit. (fit, refl); collected = refl; enough = omega arith; beside = λ m. refl; names = λ k name has. has })
     (omega arith) (omega arith) is
 
 found-ends : {M : Type 0} (l : Loaded) (r : Option (Entry M)) (x : Entry M) (kind : Kind) (base : ℕ) → r ≡ Some x → x.back.kind ≡ kind → x.back.base ≡ base → entry_ends l r ≡ ends_of l kind base
@@ -92,7 +92,7 @@ guard-entered w v a p base frame number slots guard called c cs s k es again pre
     let after : World _ = moved w v (opened a) in
     let in_tables : IsPredicateOf w.loaded.code (tables_in w.loaded) w.store.names is.call.call.pred is.call.call.predicate = predicate-of w p number called (c ∷ cs) is.code is.call.call in
     let makes : Makes w p base frame number called (c ∷ cs) s k kind y = λ h slots stands over. guard_kind stands over refl in
-    let kept : CallKept w v a base kind y es = call-kept w v a p base frame number slots called (c ∷ cs) s k es again kind y is at makes keeps in
+    let kept : CallKept w v a base kind y es = call-kept w v a p base frame number slots called (c ∷ cs) s k es again kind y is at makes tt keeps in
     let here : (c.guard ≢ truth) × IsHere (tables_in w.loaded) (steps_of w.loaded) block guard c.guard false =
     guard-here (tables_in w.loaded) (steps_of w.loaded) block rule.guard guard c.guard is_guard (applies.is_rule.guard base) in
     let long : suc (length es) ≡ length a.entries = stack-length (moved w v a) (length a.entries) (length a.collected) (y ∷ es) kept.stack in

@@ -54,6 +54,8 @@ drops-leave w b i n top frames es fs stack drops fit within kept some =
           (omega (arith, few, below.frames, kept, long), ap (take x.back.frames) drops.frames_are ∙ take-take x.back.frames frames w.arenas.frames (omega (arith, below.frames, kept))));
       collected = ap (take top) (sym drops.collected);
       enough = omega (arith, some, ap length drops.collected);
+      beside = λ m. refl;
+      names = λ k name has. has;
     }
 
 -- ---- a level that is left

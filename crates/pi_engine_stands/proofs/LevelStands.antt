@@ -26,7 +26,7 @@ use Rattle.pi_engine_stands.proofs.GoalsStand.{cells-further}
 use Rattle.pi_engine_stands.proofs.FramesStand.{Entered}
 use Rattle.pi_engine_stands.proofs.HereLemmas.{holds-extends}
 use Rattle.pi_engine_stands.proofs.ProgramStands.{code-keeps}
-use Rattle.pi_engine_stands.proofs.StandsLemmas.{moved, stack-moves, stack-length, open_level-within}
+use Rattle.pi_engine_stands.proofs.StandsLemmas.{moved, stack-moves, stack-length, open_level-within, HasNoFound}
 use Rattle.pi_engine_stands.proofs.EntriesStand.{marked_here, with_entry, back-of-new, stack-pushed}
 
 -- the first child goal stands right behind its parent's step
@@ -84,6 +84,8 @@ stack-opened w v mark slots base frame kind m to es some is =
       frames = λ i x h at fit. (fit, refl);
       collected = refl;
       enough = some;
+      beside = λ m. refl;
+      names = λ k name has. has;
     })
     (omega arith) (omega arith) is
 
@@ -117,8 +119,9 @@ agrees-with-new w v mark base frame kind within fit marks =
 -- the entries where a level is entered, which stands for what it is told to
 pub stack-entered : {M : Type 0} (w : World M) (v : StoreView M) (mark : M) (base n from : ℕ) (kind : Kind) (y : EntryData) (es : List EntryData) → StackStands w es → Marks w.order w.store v mark → Agrees w w.arenas.level (now_here w) →
     open_level zero (y ∷ es) ≡ suc (length es) → w.arenas.blocks.kept ≤ length w.arenas.blocks.slots → from ≤ length w.arenas.collected → StackIs w (length (entries_of w)) from es →
-    KindIs w.loaded w.arenas.collected (now_here w) w.store.now.state base n (length w.arenas.blocks.slots) from (length w.arenas.collected) kind y → StackStands (entered_level w v mark base n kind) (y ∷ es)
-stack-entered w v mark base n from kind y es stands marks agrees opens kept some below kind_is =
+    KindIs w.loaded w.arenas.collected (now_here w) w.store.now.state base n (length w.arenas.blocks.slots) from (length w.arenas.collected) kind y → HasNoFound y →
+    StackStands (entered_level w v mark base n kind) (y ∷ es)
+stack-entered w v mark base n from kind y es stands marks agrees opens kept some below kind_is new =
     let slots : ℕ = length w.arenas.blocks.slots in
     let x : Entry _ = new_entry w.arenas mark slots base n kind in
     let after : World _ = entered_level w v mark base n kind in
@@ -132,7 +135,7 @@ stack-entered w v mark base n from kind y es stands marks agrees opens kept some
       kept = sym (ap slots_kept_by (ap (entry_at (entries_of w ++ x ∷ [])) more ∙ get_append_last (entries_of w) x));
       stack = subst (λ m. StackIs after m (length w.arenas.collected) (y ∷ es)) (sym more) (stack-opened w v mark slots base n kind (suc (length (entries_of w))) (length w.arenas.collected) (y ∷ es) (omega arith)
           (stack-pushed w v mark slots base n from kind y es stands marks kept (omega arith) some (base-fits-in w (entry_at (entries_of w) w.arenas.level) agrees) agrees
-          (subst (λ h. KindIs w.loaded w.arenas.collected h w.store.now.state base n slots from (length w.arenas.collected) kind y) (sym (marked-all w)) kind_is) below));
+          (subst (λ h. KindIs w.loaded w.arenas.collected h w.store.now.state base n slots from (length w.arenas.collected) kind y) (sym (marked-all w)) kind_is) new below));
     }
 
 -- A level is entered: its goal is the first in it, and what is left behind it the frame says.
@@ -141,14 +144,14 @@ pub level-entered : {M : Type 0} (w : World M) (v : StoreView M) (mark : M) (p :
     children g ≡ goal c cs → SayLast (steps_of w.loaded) (p.place + 1) c false → ends_of w.loaded kind p.base ≡ in_block (block_at w.loaded p.place p.base) →
     open_level zero (y ∷ es) ≡ suc (length es) → w.arenas.blocks.kept ≤ length w.arenas.blocks.slots → from ≤ length w.arenas.collected →
     StackIs w (length (entries_of w)) from es →
-    KindIs w.loaded w.arenas.collected (now_here w) w.store.now.state p.base n (length w.arenas.blocks.slots) from (length w.arenas.collected) kind y →
+    KindIs w.loaded w.arenas.collected (now_here w) w.store.now.state p.base n (length w.arenas.blocks.slots) from (length w.arenas.collected) kind y → HasNoFound y →
     Stands (entered_level w v mark p.base n kind) (Now.Going (record { place = p.place + 1; count = 1; base = p.base; frame = 0 })) (config (run_goal c e v.now.state []) (y ∷ es))
-level-entered w v mark p n from kind y s g c cs e k es stands marks at in_it is says ends opens kept some below kind_is =
+level-entered w v mark p n from kind y s g c cs e k es stands marks at in_it is says ends opens kept some below kind_is new =
     let long : length es ≡ length (entries_of w) = stack-length w (length (entries_of w)) from es below in
     let level : w.arenas.level ≤ length (entries_of w) = omega (arith, stands.level, open_level-within zero es, long) in
     let block : block_at w.loaded p.place p.base ≡ in_it.block = block-of-step w.loaded in_it.block p.place p.base g in_it.at.own s in_it.at.here in_it.base at in
     record {
-      entries = stack-entered w v mark p.base n from kind y es stands marks in_it.agrees opens kept some below kind_is;
+      entries = stack-entered w v mark p.base n from kind y es stands marks in_it.agrees opens kept some below kind_is new;
       runs = going_now (record {
         block = in_it.block;
         base = in_it.base;

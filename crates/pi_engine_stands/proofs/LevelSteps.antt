@@ -22,14 +22,14 @@ use Rattle.pi_meaning.specs.Machine.Configuration.{Frame, behind, config, Entry 
 use Rattle.pi_meaning.specs.Machine.Step.{goal_step, run_goal, back_to, with_rest}
 use Rattle.pi_meaning.specs.Machine.Shape.{open_level}
 use Rattle.pi_engine_stands.specs.Here.{Block, SayLast, IsHere, Holds, Here, in_block, GoesOn}
-use Rattle.pi_engine_stands.specs.Stands.{tables_in, World, Loaded, Stands, ends_of, values_between, steps_of, entries_of, now_here, GoalStands, KindIs, once_kind, not_kind, if_kind, collect_kind, count_kind, StackIs, StackStands, StandsGoing, GoingIs, block_at}
+use Rattle.pi_engine_stands.specs.Stands.{tables_in, World, Loaded, Stands, ends_of, values_between, steps_of, entries_of, now_here, GoalStands, KindIs, once_kind, not_kind, if_kind, collect_kind, count_kind, search_kind, StackIs, StackStands, StandsGoing, GoingIs, block_at}
 use Rattle.pi_engine_stands.specs.Makes.{StandsAfter, level_kind}
 use Rattle.pi_engine_stands.proofs.PointLemmas.{first-of, FirstOf, GoalAtPoint}
 use Rattle.pi_engine_code.proofs.CodeLemmas.{child_place-first}
 use Rattle.pi_engine_stands.proofs.NodeLemmas.{kind-here, if-of, not-of, once-of, collect-of, count-of}
 use Rattle.pi_engine_stands.proofs.FramesStand.{with_new_frames, Entered, entered-behind, going-of, going-size, pushes-more, stack-framed, MoreFrames}
 use Rattle.pi_engine_stands.proofs.LevelStands.{block-of-step, entered_level, level-entered}
-use Rattle.pi_engine_stands.proofs.StandsLemmas.{entry-facts, EntryFacts}
+use Rattle.pi_engine_stands.proofs.StandsLemmas.{entry-facts, EntryFacts, HasNoFound}
 
 -- a goal that is entered stands at its place
 stands-at : (l : Loaded) (h : Here) (base place frame : ℕ) (g : GoalTree) (e : Places) (k : List Frame) (b : Block) → block_at l place base ≡ b → Holds h.terms h.slots b e →
@@ -74,10 +74,10 @@ pub enter : {M : Type 0} (w : World M) (v : StoreView M) (mark : M) (p : Point) 
     Pushed w p s fs n → Marks w.order w.store v mark → children g ≡ goal c cs → ((own : Bool) → SayLast (steps_of w.loaded) p.place g own → SayLast (steps_of w.loaded) (p.place + 1) c false) →
     ends_of w.loaded kind p.base ≡ in_block (block_at w.loaded p.place p.base) → open_level zero (y ∷ es) ≡ suc (length es) →
     (GoalStands w.loaded (now_here (with_new_frames w fs)) p.base p.place n g e (behind gs k) →
-    KindIs w.loaded w.arenas.collected (now_here (with_new_frames w fs)) w.store.now.state p.base n (length w.arenas.blocks.slots) (length w.arenas.collected) (length w.arenas.collected) kind y) →
+    KindIs w.loaded w.arenas.collected (now_here (with_new_frames w fs)) w.store.now.state p.base n (length w.arenas.blocks.slots) (length w.arenas.collected) (length w.arenas.collected) kind y) → HasNoFound y →
     StandsGoing w p (goal g gs) e k es →
     Stands (entered_level (with_new_frames w fs) v mark p.base n kind) (Now.Going (record { place = p.place + 1; count = 1; base = p.base; frame = 0 })) (config (run_goal c e w.store.now.state []) (y ∷ es))
-enter w v mark p s fs n kind y g c cs gs e k es pushed marks is says ends opens kind_is stands =
+enter w v mark p s fs n kind y g c cs gs e k es pushed marks is says ends opens kind_is new stands =
     let going : GoingIs w p (goal g gs) e k = going-of w p (goal g gs) e w.store.now.state k stands.runs in
     let size : (s.size ≡ nodes g) × (p.place + nodes g < 2 ^ 32) = going-size w p s g gs e k pushed.0 going in
     let more : MoreFrames w.arenas.frames fs = pushes-more p s w.arenas.frames fs n (omega (arith, size.0, size.1)) pushed.1 in
@@ -85,7 +85,7 @@ enter w v mark p s fs n kind y g c cs gs e k es pushed marks is says ends opens 
     let entries : StackStands (with_new_frames w fs) es = stack-framed w fs es more stands.entries in
     subst (λ t. Stands (entered_level (with_new_frames w fs) v mark p.base n kind) (Now.Going (record { place = p.place + 1; count = 1; base = p.base; frame = 0 })) (config (run_goal c e t []) (y ∷ es))) marks.stays.state
     (level-entered (with_new_frames w fs) v mark p n (length w.arenas.collected) kind y s g c cs e (behind gs k) es entries marks pushed.0 in_it is (says in_it.at.own in_it.at.here.says) ends opens
-    (kept-within w es stands.entries) (omega arith) entries.stack (kind_is (goal-stands (with_new_frames w fs) p n s g e (behind gs k) pushed.0 in_it)))
+    (kept-within w es stands.entries) (omega arith) entries.stack (kind_is (goal-stands (with_new_frames w fs) p n s g e (behind gs k) pushed.0 in_it)) new)
 
 once-step : {M : Type 0} (w : World M) (v : StoreView M) (mark : M) (p : Point) (s : Step) (fs : List Point) (n : ℕ) (c : GoalTree) (gs : GoalTrees) (e : Places) (k : List Frame) (es : List EntryData) →
     Pushed w p s fs n → Marks w.order w.store v mark → StandsGoing w p (goal (once c) gs) e k es →
@@ -94,7 +94,7 @@ once-step : {M : Type 0} (w : World M) (v : StoreView M) (mark : M) (p : Point) 
 unfolding children SayLast open_level
 once-step w v mark p s fs n c gs e k es pushed marks stands =
     enter w v mark p s fs n (Kind.Strict (Strict.Once p.place)) (strict once_level (back_to e w.store.now.state (behind gs k))) (once c) c no_goals gs e k es pushed marks refl (λ own is. is.1) refl refl
-    (λ is. once_kind is refl) stands
+    (λ is. once_kind is refl) tt stands
 
 not-step : {M : Type 0} (w : World M) (v : StoreView M) (mark : M) (p : Point) (s : Step) (fs : List Point) (n : ℕ) (c : GoalTree) (gs : GoalTrees) (e : Places) (k : List Frame) (es : List EntryData) →
     Pushed w p s fs n → Marks w.order w.store v mark → StandsGoing w p (goal (not c) gs) e k es →
@@ -103,7 +103,7 @@ not-step : {M : Type 0} (w : World M) (v : StoreView M) (mark : M) (p : Point) (
 unfolding children SayLast open_level
 not-step w v mark p s fs n c gs e k es pushed marks stands =
     enter w v mark p s fs n (Kind.Strict (Strict.Not p.place)) (strict not_level (back_to e w.store.now.state (behind gs k))) (not c) c no_goals gs e k es pushed marks refl (λ own is. is.1) refl refl
-    (λ is. not_kind is refl) stands
+    (λ is. not_kind is refl) tt stands
 
 if-step : {M : Type 0} (w : World M) (v : StoreView M) (mark : M) (p : Point) (s : Step) (fs : List Point) (n : ℕ) (test c other : GoalTree) (gs : GoalTrees) (e : Places) (k : List Frame) (es : List EntryData) →
     Pushed w p s fs n → Marks w.order w.store v mark → StandsGoing w p (goal (if_else test c other) gs) e k es →
@@ -112,7 +112,7 @@ if-step : {M : Type 0} (w : World M) (v : StoreView M) (mark : M) (p : Point) (s
 unfolding children SayLast open_level
 if-step w v mark p s fs n test c other gs e k es pushed marks stands =
     enter w v mark p s fs n (Kind.Strict (Strict.If p.place)) (strict (if_level c other) (back_to e w.store.now.state (behind gs k))) (if_else test c other) test (goal c (goal other no_goals)) gs e k es pushed marks refl (λ own is. is.1) refl refl
-    (λ is. if_kind is refl) stands
+    (λ is. if_kind is refl) tt stands
 
 collect-step : {M : Type 0} (w : World M) (v : StoreView M) (mark : M) (p : Point) (s : Step) (fs : List Point) (n value into : ℕ) (c : GoalTree) (gs : GoalTrees) (e : Places) (k : List Frame) (es : List EntryData) →
     Pushed w p s fs n → Marks w.order w.store v mark → StandsGoing w p (goal (collect c value into) gs) e k es →
@@ -124,7 +124,7 @@ collect-step w v mark p s fs n value into c gs e k es pushed marks stands =
     let none : values_between w.arenas.collected top top ≡ [] = ap (λ m. take m (drop top w.arenas.collected)) (zero-of top) in
     enter w v mark p s fs n (Kind.Strict (Strict.Collect p.place top)) (strict (list_level value into []) (back_to e w.store.now.state (behind gs k))) (collect c value into) c no_goals gs e k es pushed marks refl (λ own is. is.1) refl refl
     (λ is. subst (λ got. KindIs w.loaded w.arenas.collected (now_here (with_new_frames w fs)) w.store.now.state p.base n (length w.arenas.blocks.slots) top top (Kind.Strict (Strict.Collect p.place top)) (strict (list_level value into got) (back_to e w.store.now.state (behind gs k)))) none
-    (collect_kind is (omega arith) (omega arith))) stands
+    (collect_kind is (omega arith) (omega arith))) tt stands
 
 count-step : {M : Type 0} (w : World M) (v : StoreView M) (mark : M) (p : Point) (s : Step) (fs : List Point) (n into : ℕ) (c : GoalTree) (gs : GoalTrees) (e : Places) (k : List Frame) (es : List EntryData) →
     Pushed w p s fs n → Marks w.order w.store v mark → StandsGoing w p (goal (count c into) gs) e k es →
@@ -133,7 +133,7 @@ count-step : {M : Type 0} (w : World M) (v : StoreView M) (mark : M) (p : Point)
 unfolding children SayLast open_level
 count-step w v mark p s fs n into c gs e k es pushed marks stands =
     enter w v mark p s fs n (Kind.Strict (Strict.Count p.place 0)) (strict (number_level into 0) (back_to e w.store.now.state (behind gs k))) (count c into) c no_goals gs e k es pushed marks refl (λ own is. is.1) refl refl
-    (λ is. count_kind is refl) stands
+    (λ is. count_kind is refl) tt stands
 
 some-is : {a b : Kind} → Some a ≡ Some b → a ≡ b
 some-is h = cc

@@ -22,7 +22,7 @@ use Rattle.pi_meaning.specs.Machine.Configuration.{Frame, Called, Entry as Entry
 use Rattle.pi_meaning.specs.Machine.Step.{back_to, strict_step, taken, trial}
 use Rattle.pi_meaning.specs.Machine.Shape.{IsBalanced}
 use Rattle.pi_engine_stands.specs.Here.{Block, with_value, Holds, LeftBehind, GoesOn, answers, gives, returns_to_end, more_of_block, returns_to}
-use Rattle.pi_engine_stands.specs.Stands.{World, tables_in, steps_of, entries_of, ends_of, entry_ends, level_ends, rule_block, back_here, now_here, Agrees, KindIs, once_kind, not_kind, if_kind, guard_kind, apply_kind, collect_kind, count_kind, StackIs, entry_above, StackStands, Stands, StandsGoing, GoingIs}
+use Rattle.pi_engine_stands.specs.Stands.{World, tables_in, steps_of, entries_of, ends_of, entry_ends, level_ends, rule_block, back_here, now_here, Agrees, KindIs, once_kind, not_kind, if_kind, guard_kind, apply_kind, collect_kind, count_kind, search_kind, StackIs, entry_above, StackStands, Stands, StandsGoing, GoingIs}
 use Rattle.pi_engine_stands.specs.Tries.{TakesGuarded}
 use Rattle.pi_engine_stands.specs.Makes.{SilentlyTo}
 use Rattle.pi_engine_stands.proofs.StandsLemmas.{moved, stack-length, open_level-within}
@@ -67,6 +67,7 @@ guard-makes w v b i from predicate number x back kind s d now es above below f s
 guard-makes w v b i from predicate number x back kind s d now es above below f stands is_back at named is_kind stack long agrees holds takes (apply_kind own free args fit one) = absurd cc
 guard-makes w v b i from predicate number x back kind s d now es above below f stands is_back at named is_kind stack long agrees holds takes (collect_kind own order some) = absurd cc
 guard-makes w v b i from predicate number x back kind s d now es above below f stands is_back at named is_kind stack long agrees holds takes (count_kind own one) = absurd cc
+guard-makes w v b i from predicate number x back kind s d now es above below f stands is_back at named is_kind stack long agrees holds takes (search_kind own labels held fit order one) = absurd cc
 
 pub guard-answers : {M : Type 0} (w : World M) (v : StoreView M) (b : ArenasView M) (i predicate number : ℕ) (x : Entry M) (back : Back) (now : Now) (p : Point) (es : List EntryData) (view : View) (names : List NameSlot) (e : Places) (k : List Frame) →
     StandsGoing w p no_goals e k es → p.count ≡ 0 → p.frame ≡ 0 → IsBalanced zero es → w.arenas.level ≡ suc i → slice_get (entries_of w) i ≡ Some x → x.back ≡ back → back.kind ≡ Kind.Strict (StrictKind.Guard predicate number) →

@@ -84,3 +84,10 @@ pub mod SolveFilled
 pub mod SolveStands
 pub mod SolveLabels
 pub mod ConfinedRests
+pub mod SearchBegins
+pub mod SearchBeginsEntry
+pub mod SearchBeginsGoal
+pub mod SearchAnswersOpen
+pub mod SearchAnswers
+pub mod SearchAnswersRounds
+pub mod SearchEnds

@@ -185,6 +185,8 @@ values-gone w back c d from y es out taken =
             frames = λ i x h at fit. (fit, refl);
             collected = ap (take from) out.same ∙ sym (take-take from from c (omega arith)) ∙ ap (take from) (sym taken);
             enough = omega (arith, many);
+            beside = λ m. refl;
+            names = λ k name has. has;
           }) (omega arith) (omega arith) out.stack);
     }
 

@@ -31,7 +31,7 @@ use Rattle.pi_engine_arenas.specs.Arenas.{ArenasView, DropsNewest}
 use Rattle.pi_meaning.specs.Machine.Configuration.{Frame, Entry as EntryData, Strict, strict, value_level, Back as BackData, config, raising, in_places}
 use Rattle.pi_meaning.specs.Machine.Step.{end_step}
 use Rattle.pi_engine_stands.specs.Here.{Block, block_end, Here, AreHeld, HoldsArguments, NodeIsReadable}
-use Rattle.pi_engine_stands.specs.Stands.{World, Loaded, tables_in, steps_of, now_here, block_at, IsCodeOf, HasNumber, GoalStands, KindIs, once_kind, not_kind, if_kind, guard_kind, apply_kind, collect_kind, count_kind, StackLies, Stands, raising_now}
+use Rattle.pi_engine_stands.specs.Stands.{World, Loaded, tables_in, steps_of, now_here, block_at, IsCodeOf, HasNumber, GoalStands, KindIs, once_kind, not_kind, if_kind, guard_kind, apply_kind, collect_kind, count_kind, search_kind, StackLies, Stands, raising_now}
 use Rattle.pi_engine_stands.specs.Makes.{unresolved_for}
 use Rattle.pi_engine_stands.specs.Fails.{IsBack}
 use Rattle.pi_engine_stands.proofs.NodeLemmas.{kind-here}
@@ -159,6 +159,7 @@ applies-at l c h t base frame slots from to place caller kind s b named (apply_k
     )
 applies-at l c h t base frame slots from to place caller kind s b named (collect_kind own order some) = absurd cc
 applies-at l c h t base frame slots from to place caller kind s b named (count_kind own one) = absurd cc
+applies-at l c h t base frame slots from to place caller kind s b named (search_kind own labels held fit order one) = absurd cc
 
 -- which predicate it calls
 pub record Applied {M : Type 0} (w : World M) (place caller : ℕ) (step : Step) (name : List ℕ) (args : List Tree) (into : ℕ) : Type 0 where
@@ -249,6 +250,8 @@ store-changes w u es stands stays =
             frames = λ i x h at fit. (fit, refl);
             collected = refl;
             enough = omega arith;
+            beside = stays.keeps.beside;
+            names = stays.keeps.names;
           }) (omega arith) (omega arith) stands.stack;
     }
 

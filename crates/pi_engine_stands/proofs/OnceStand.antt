@@ -22,7 +22,7 @@ use Rattle.pi_meaning.specs.Machine.Configuration.{Frame, Entry as EntryData, Co
 use Rattle.pi_meaning.specs.Machine.Step.{silently, step, strict_step, answer_step, newest_open, Open, strict_open}
 use Rattle.pi_meaning.specs.Machine.Shape.{open_level, IsBalanced}
 use Rattle.pi_engine_stands.specs.Here.{Here, Block, in_block, Holds}
-use Rattle.pi_engine_stands.specs.Stands.{World, Loaded, steps_of, entries_of, level_ends, back_here, now_here, agrees_from, Agrees, block_at, entry_ends, ends_of, KindIs, once_kind, not_kind, if_kind, guard_kind, apply_kind, collect_kind, count_kind, catch_kind, GoalStands, EntryIs, StackIs, StackStands, Stands, going_now, failing_now, StandsGoing, GoingIs}
+use Rattle.pi_engine_stands.specs.Stands.{World, Loaded, steps_of, entries_of, level_ends, back_here, now_here, agrees_from, Agrees, block_at, entry_ends, ends_of, KindIs, once_kind, not_kind, if_kind, guard_kind, apply_kind, collect_kind, count_kind, search_kind, catch_kind, GoalStands, EntryIs, StackIs, StackStands, Stands, going_now, failing_now, StandsGoing, GoingIs}
 use Rattle.pi_engine_stands.specs.Makes.{SilentlyTo, already, one_more}
 use Rattle.pi_engine_stands.proofs.FramesStand.{going-of}
 use Rattle.pi_engine_stands.proofs.StandsLemmas.{moved}
@@ -144,6 +144,7 @@ once-makes w b i from place x kind s back es above fs e it is below named holds 
 once-makes w b i from place x kind s back es above fs e it is below named holds (apply_kind own free args fit one) = absurd cc
 once-makes w b i from place x kind s back es above fs e it is below named holds (collect_kind own order some) = absurd cc
 once-makes w b i from place x kind s back es above fs e it is below named holds (count_kind own one) = absurd cc
+once-makes w b i from place x kind s back es above fs e it is below named holds (search_kind own labels held fit order one) = absurd cc
 
 not-makes : {M : Type 0} (w : World M) (b : ArenasView M) (i from place : ℕ) (x : Entry M) (kind : Kind) (s : Strict) (back : BackData) (es above fs : List EntryData) (e : Places) →
     Answered w b i x es → EntryIs w fs (entry_at (entries_of w) i) from (length w.arenas.collected) x (strict s back) → StackIs w i from fs →
@@ -163,6 +164,7 @@ not-makes w b i from place x kind s back es above fs e it is below named holds (
 not-makes w b i from place x kind s back es above fs e it is below named holds (apply_kind own free args fit one) = absurd cc
 not-makes w b i from place x kind s back es above fs e it is below named holds (collect_kind own order some) = absurd cc
 not-makes w b i from place x kind s back es above fs e it is below named holds (count_kind own one) = absurd cc
+not-makes w b i from place x kind s back es above fs e it is below named holds (search_kind own labels held fit order one) = absurd cc
 
 if-makes : {M : Type 0} (w : World M) (b : ArenasView M) (i from place at_child : ℕ) (code : Code) (x : Entry M) (kind : Kind) (s : Strict) (back : BackData) (es above fs : List EntryData) (e : Places) →
     w.loaded.code ≡ code → ((terms : ℕ → Option Tree) (h : GoalTree) → StandsAt (tables_of terms code) code.steps.items place h → 1 < child_count h → at_child ≡ child_place h place 1) →
@@ -189,6 +191,7 @@ if-makes w b i from place at_child code x kind s back es above fs e is_code find
 if-makes w b i from place at_child code x kind s back es above fs e is_code finds it is below named holds (apply_kind own free args fit one) = absurd cc
 if-makes w b i from place at_child code x kind s back es above fs e is_code finds it is below named holds (collect_kind own order some) = absurd cc
 if-makes w b i from place at_child code x kind s back es above fs e is_code finds it is below named holds (count_kind own one) = absurd cc
+if-makes w b i from place at_child code x kind s back es above fs e is_code finds it is below named holds (search_kind own labels held fit order one) = absurd cc
 
 -- an answer of a level of which the kind is known, from where its goals are done
 pub level-answers : {M : Type 0} (w : World M) (v : StoreView M) (b : ArenasView M) (i : ℕ) (d : Block) (x : Entry M) (s : StrictKind) (now : Now) (p : Point) (es : List EntryData) (view : View) (names : List NameSlot) (e : Places) (k : List Frame) →

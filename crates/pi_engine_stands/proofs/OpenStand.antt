@@ -12,7 +12,7 @@ use Rattle.pi_meaning.specs.Machine.Configuration.{Entry as EntryData, choice, s
 use Rattle.pi_meaning.specs.Machine.Step.{Open, none_open, strict_open, catch_open, beneath, newest_open}
 use Rattle.pi_meaning.specs.Machine.Shape.{open_level, IsBalanced}
 use Rattle.pi_engine_stands.specs.Here.{Here, block_end}
-use Rattle.pi_engine_stands.specs.Stands.{World, Loaded, steps_of, entries_of, back_here, KindIs, rules_kind, facts_kind, branches_kind, alternatives_kind, once_kind, not_kind, if_kind, guard_kind, apply_kind, collect_kind, count_kind, catch_kind, exit_kind, block_at, EntryIs, StackIs, no_entries, entry_above, StackStands}
+use Rattle.pi_engine_stands.specs.Stands.{World, Loaded, steps_of, entries_of, back_here, KindIs, rules_kind, facts_kind, branches_kind, alternatives_kind, once_kind, not_kind, if_kind, guard_kind, apply_kind, collect_kind, count_kind, search_kind, catch_kind, exit_kind, block_at, EntryIs, StackIs, no_entries, entry_above, StackStands}
 use Rattle.pi_engine_arenas.proofs.BlocksLemmas.{length-slots_before, brought_back-is}
 use Rattle.pi_engine_stands.proofs.StandsLemmas.{stack-length, open_level-within}
 use Rattle.pi_engine_stands.proofs.BasesStand.{shape-base}
@@ -52,7 +52,7 @@ open-is w n top k es (entry_above m from fs x y at is below) = open-above w k m 
 at-base : (l : Loaded) (place base n : ℕ) → block_end (block_at l place base) ≤ n → base ≤ n
 at-base l place base n h = omega (arith, h, shape-base (slice_get (steps_of l) place) base)
 
-strict-base : (l : Loaded) (c : List Tree) (h : Here) (t : State) (base frame slots from to : ℕ) (kind : Kind) (s : Strict) (b : Back) → KindIs l c h t base frame slots from to kind (strict s b) → base ≤ length h.slots
+pub strict-base : (l : Loaded) (c : List Tree) (h : Here) (t : State) (base frame slots from to : ℕ) (kind : Kind) (s : Strict) (b : Back) → KindIs l c h t base frame slots from to kind (strict s b) → base ≤ length h.slots
 strict-base l c h t base frame slots from to kind s b (once_kind {place = place} is one) = at-base l place base (length h.slots) is.behind.slots.within
 strict-base l c h t base frame slots from to kind s b (not_kind {place = place} is one) = at-base l place base (length h.slots) is.behind.slots.within
 strict-base l c h t base frame slots from to kind s b (if_kind {place = place} is one) = at-base l place base (length h.slots) is.behind.slots.within
@@ -60,6 +60,7 @@ strict-base l c h t base frame slots from to kind s b (guard_kind is over one) =
 strict-base l c h t base frame slots from to kind s b (apply_kind is free args fit one) = omega (arith, args.within)
 strict-base l c h t base frame slots from to kind s b (collect_kind {place = place} is below some) = at-base l place base (length h.slots) is.behind.slots.within
 strict-base l c h t base frame slots from to kind s b (count_kind {place = place} is one) = at-base l place base (length h.slots) is.behind.slots.within
+strict-base l c h t base frame slots from to kind s b (search_kind own labels held fit order one) = omega (arith, held.within)
 
 catch-base : (l : Loaded) (c : List Tree) (h : Here) (t : State) (base frame slots from to : ℕ) (kind : Kind) (ball : Tree) (handler : GoalTree) (b : Back) → KindIs l c h t base frame slots from to kind (catch_level ball handler b) → base ≤ length h.slots
 catch-base l c h t base frame slots from to kind ball handler b (catch_kind {place = place} is stays one) = at-base l place base (length h.slots) is.behind.slots.within

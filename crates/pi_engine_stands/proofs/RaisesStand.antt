@@ -16,7 +16,7 @@ use Rattle.pi_meaning.specs.Machine.Configuration.{Entry as EntryData, choice, s
 use Rattle.pi_meaning.specs.Machine.Step.{silently, raise_step, below_left, Open, none_open, strict_open, newest_open}
 use Rattle.pi_meaning.specs.Machine.Shape.{open_level, IsBalanced}
 use Rattle.pi_engine_stands.specs.Here.{Here}
-use Rattle.pi_engine_stands.specs.Stands.{World, Loaded, entries_of, back_here, KindIs, rules_kind, facts_kind, branches_kind, alternatives_kind, once_kind, not_kind, if_kind, guard_kind, apply_kind, collect_kind, count_kind, catch_kind, exit_kind, IsAbove, StackIs, no_entries, entry_above, StackLies, raising_now}
+use Rattle.pi_engine_stands.specs.Stands.{World, Loaded, entries_of, back_here, KindIs, rules_kind, facts_kind, branches_kind, alternatives_kind, once_kind, not_kind, if_kind, guard_kind, apply_kind, collect_kind, count_kind, search_kind, catch_kind, exit_kind, IsAbove, StackIs, no_entries, entry_above, StackLies, raising_now}
 use Rattle.pi_engine_stands.specs.Raises.{IsDropped, collected_below}
 use Rattle.pi_engine_stands.specs.Fails.{ComesTo}
 use Rattle.pi_terms.proofs.ListLemmas.{take-take}
@@ -44,6 +44,8 @@ dropped w c b i from x es fs stands below above level fit some values leaves =
       frames = λ j z h at few. (few, refl);
       collected = sym (take-take from from w.arenas.collected (omega arith)) ∙ ap (take from) (sym values);
       enough = omega (arith, many);
+      beside = λ m. refl;
+      names = λ k name has. has;
     } in
     let stack : StackIs w1 i from fs = stack-moves w w.store a i from i from fs first (omega arith) (omega arith) below in
     let second : Leaves w1 w1.store b i from =
@@ -77,6 +79,7 @@ gone l c h t base frame slots from to kind ball y fs drops (guard_kind call fits
 gone l c h t base frame slots from to kind ball y fs drops (apply_kind own free args fit one) = record { starts = one; steps = refl }
 gone l c h t base frame slots from to kind ball y fs drops (collect_kind own order some) = record { starts = refl; steps = refl }
 gone l c h t base frame slots from to kind ball y fs drops (count_kind own one) = record { starts = one; steps = refl }
+gone l c h t base frame slots from to kind ball y fs drops (search_kind own labels held fit order one) = record { starts = one; steps = refl }
 gone l c h t base frame slots from to kind ball y fs drops (catch_kind own stays one) = absurd drops
 gone l c h t base frame slots from to kind ball y fs drops (exit_kind one) = absurd drops
 
@@ -141,6 +144,7 @@ exit-is l c h t base frame slots from to kind y named (guard_kind call fits one)
 exit-is l c h t base frame slots from to kind y named (apply_kind own free args fit one) = absurd cc
 exit-is l c h t base frame slots from to kind y named (collect_kind own order some) = absurd cc
 exit-is l c h t base frame slots from to kind y named (count_kind own one) = absurd cc
+exit-is l c h t base frame slots from to kind y named (search_kind own labels held fit order one) = absurd cc
 exit-is l c h t base frame slots from to kind y named (catch_kind own stays one) = absurd cc
 exit-is l c h t base frame slots from to kind y named (exit_kind one) = (refl, one)
 

@@ -92,7 +92,7 @@ stack-same w es kept stack =
       below = length (entries_of w);
       under = stack;
       passes = record {
-        leaves = record { entries = refl; marks = λ i x h at good. (good, refl); blocks = λ i x h at is. (is, refl); frames = λ i x h at fit. (fit, refl); collected = refl; enough = omega arith };
+        leaves = record { entries = refl; marks = λ i x h at good. (good, refl); blocks = λ i x h at is. (is, refl); frames = λ i x h at fit. (fit, refl); collected = refl; enough = omega arith; beside = λ m. refl; names = λ k name has. has };
         slots = refl;
         frames = refl;
         level = refl;
@@ -178,7 +178,7 @@ rule-kept w v a p base frame number next slots called c cs s k es again predicat
     subst (λ all. Stands (moved w v a) (Now.Going (record { place = rule.body; count = rule.goals; base = base; frame = frame })) (config (run_goal c.body e w.store.now.state (after_body called.function c k)) all))
     (sym (some-later (leaves_others called.function c) called cs s k es leaves some))
     (rule-stands w v a p base frame number called c cs s k es (y ∷ es) again predicate rule e applies
-    (stack-kept w v a base (Kind.Rules p next) y es (call-kept w v a p base frame number slots called (c ∷ cs) s k es again (Kind.Rules p next) y is at makes keeps)) refl)
+    (stack-kept w v a base (Kind.Rules p next) y es (call-kept w v a p base frame number slots called (c ∷ cs) s k es again (Kind.Rules p next) y is at makes tt keeps)) refl)
 
 -- no rule behind it stays
 pub rule-alone : {M : Type 0} (w : World M) (v : StoreView M) (a : ArenasView M) (p base frame number : ℕ) (called : Called) (c : ClauseTree) (cs : List ClauseTree) (s : State) (k : List Frame) (es : List EntryData) (again : Bool)

@@ -1,6 +1,6 @@
--- Labelling as a step of the machine: an exception for an objective, the goals after the call where no variable is left, or an entry for the alternatives of the one that is picked.
-use Rattle.std.proofs.Common.{◌≡◌, ◌≢◌, ℕ, zero, suc, ◌+◌, ◌^◌, ◌≤◌, ◌<◌, Bool, true, false, List, [], ◌∷◌, ◌++◌, Option, Some, None, is_some, length, map, reverse, refl, sym, ◌∙◌, ap, subst, arith}
-use Rattle.std.specs.Prelude.{slice_get, codes}
+-- Labelling as a step of the machine: the goals after the call where no variable is left, or an entry for the alternatives of the one that is picked.
+use Rattle.std.proofs.Common.{◌≡◌, ◌≢◌, ℕ, zero, suc, ◌+◌, ◌^◌, ◌≤◌, ◌<◌, true, List, [], ◌∷◌, ◌++◌, Option, Some, None, length, reverse, refl, sym, ◌∙◌, ap, subst, arith}
+use Rattle.std.specs.Prelude.{slice_get}
 use Rattle.std.proofs.lemmas.List.{length-append, length-map, length-reverse}
 use Rattle.pi_terms.specs.Tree.{Tree, Trees, trees_of}
 use Rattle.pi_terms.specs.Places.{Places}
@@ -11,19 +11,17 @@ use Rattle.pi_constraints.specs.Domain.{values_of, size_of}
 use Rattle.pi_constraints.specs.State.{State, IsState, domain_of}
 use Rattle.pi_constraints.specs.Store.{StoreView, Keeps, Marks}
 use Rattle.pi_constraints.proofs.StateLemmas.{domain_good}
-use Rattle.pi_settling.specs.Options.{Options, Objective, VariableWord, ValueWord, up, down, split, reverse_split}
+use Rattle.pi_settling.specs.Options.{Options, ValueWord, up, down, split, reverse_split}
 use Rattle.pi_settling.specs.Confined.{confined}
 use Rattle.pi_settling.specs.Choices.{Pending, pending, picked, is_value, alternatives as alternatives_of}
 use Rattle.pi_core.specs.GoalTree.{GoalTree, GoalTrees, goal, call, nodes}
-use Rattle.pi_label.specs.declared.options.Objective.{Objective as Sought}
 use Rattle.pi_label.specs.declared.options.ValueWord.{ValueWord as Tried}
-use Rattle.pi_label.specs.Reads.{AreObjectives}
 use Rattle.pi_label.specs.Words.{value_word}
 use Rattle.pi_lib_constraints.specs.Kept.{AreRefsOf}
 use Rattle.pi_meaning.specs.Machine.Filled.{are_filled}
-use Rattle.pi_meaning.specs.Machine.Configuration.{Frame, Config, behind, config, failed, going, raising, choice, alternatives_left, Entry as EntryData}
+use Rattle.pi_meaning.specs.Machine.Configuration.{Frame, behind, config, failed, going, choice, alternatives_left, Entry as EntryData}
 use Rattle.pi_meaning.specs.Machine.Shape.{open_level}
-use Rattle.pi_meaning.specs.Machine.Step.{Rest, NameCall, unknown_ball, again_by, label_step, labels_step, back_to, name_call, with_rest}
+use Rattle.pi_meaning.specs.Machine.Step.{Rest, NameCall, again_by, label_step, labels_step, back_to, name_call, with_rest}
 use Rattle.pi_engine_code.specs.declared.code.Step.{Step}
 use Rattle.pi_engine_arenas.specs.declared.arenas.Entry.{Entry}
 use Rattle.pi_engine_arenas.specs.declared.arenas.Kind.{Kind}
@@ -41,25 +39,7 @@ use Rattle.pi_engine_stands.proofs.FramesStand.{with_new_frames, Entered, MoreFr
 use Rattle.pi_engine_stands.proofs.LevelStands.{marked-all, base-fits-in}
 use Rattle.pi_engine_stands.proofs.LevelSteps.{Pushed, goal-stands, kept-within}
 use Rattle.pi_engine_stands.proofs.ProgramStands.{code-keeps}
-use Rattle.pi_engine_stands.proofs.SolveStands.{raises-here}
-use Rattle.pi_engine_stands.proofs.StandsLemmas.{moved}
-
--- ---- an objective
-
-pub objective-raises : {M : Type 0} (w : World M) (p : Point) (sought : Option Sought) (o : Options) (items : List Item) (ball : Tree) (c : NameCall) (hs gs : GoalTrees) (e : Places) (k : List Frame) (es : List EntryData) →
-    AreObjectives w.store sought o.objective → is_some sought ≡ true → ball ≡ unknown_ball (codes "solve") 2 → StandsGoing w p hs e k es →
-    Stands w (Now.Raising ball) (labels_step o.objective o items c (with_rest gs k es))
-objective-raises w p sought o items ball c hs gs e k es are some told stands = by sought o.objective are some
-  where
-    by : (sought : Option Sought) (wanted : Option Objective) → AreObjectives w.store sought wanted → is_some sought ≡ true → Stands w (Now.Raising ball) (labels_step wanted o items c (with_rest gs k es))
-    by None wanted are some = absurd cc
-    by (Some q) None are some = absurd are
-    by (Some q) (Some wanted) are some = subst (λ b. Stands w (Now.Raising ball) (config (raising b) es)) told (raises-here w p ball hs e k es stands)
-
-no-objective : {M : Type 0} (v : StoreView M) (sought : Option Sought) (wanted : Option Objective) → AreObjectives v sought wanted → is_some sought ≡ false → wanted ≡ None
-no-objective v None None are none = refl
-no-objective v None (Some wanted) are none = absurd are
-no-objective v (Some q) wanted are none = absurd cc
+use Rattle.pi_engine_stands.proofs.StandsLemmas.{moved, HasNoFound}
 
 -- ---- the variables are confined
 
@@ -83,28 +63,26 @@ kept-stands w u p gs e k es keeps rests stands =
 abbrev pub call_with : List ℕ → List Tree → Trees → Places → State → NameCall
 call_with name args ts e s = name_call name args (record { trees = ts; slots = e; state = s })
 
--- without an objective it goes by the variable that is picked in the state where they are confined
-labels-so : {M : Type 0} (w x : World M) (now : Now) (sought : Option Sought) (o : Options) (items : List Item) (c : NameCall) (t : State) (found : Option Pending) (gs : GoalTrees) (k : List Frame) (es : List EntryData) →
-    AreObjectives w.store sought o.objective → is_some sought ≡ false → t ≡ confined c.all.state items → picked (pending t items) o.variable ≡ found →
-    Stands x now (label_step c o.value t (with_rest gs k es) found) → Stands x now (labels_step o.objective o items c (with_rest gs k es))
-labels-so w x now sought o items c t found gs k es are none here out comes =
-    subst (λ wanted. Stands x now (labels_step wanted o items c (with_rest gs k es))) (sym (no-objective w.store sought o.objective are none))
-    (subst (λ q. Stands x now (label_step c o.value q (with_rest gs k es) (picked (pending q items) o.variable))) here
-    (subst (λ p. Stands x now (label_step c o.value t (with_rest gs k es) p)) (sym out) comes))
+-- it goes by the variable that is picked in the state where they are confined
+labels-so : {M : Type 0} (x : World M) (now : Now) (o : Options) (items : List Item) (c : NameCall) (t : State) (found : Option Pending) (gs : GoalTrees) (k : List Frame) (es : List EntryData) →
+    t ≡ confined c.all.state items → picked (pending t items) o.variable ≡ found →
+    Stands x now (label_step c o.value t (with_rest gs k es) found) → Stands x now (labels_step None o items c (with_rest gs k es))
+labels-so x now o items c t found gs k es here out comes =
+    subst (λ q. Stands x now (label_step c o.value q (with_rest gs k es) (picked (pending q items) o.variable))) here
+    (subst (λ p. Stands x now (label_step c o.value t (with_rest gs k es) p)) (sym out) comes)
 
 -- ---- no variable is left
 
 -- the goals after it run next
-pub none-left : {M : Type 0} (w : World M) (u : StoreView M) (p : Point) (s : Step) (sought : Option Sought) (o : Options) (items : List Item) (name : List ℕ) (args : List Tree) (ts : Trees) (gs : GoalTrees) (e : Places) (k : List Frame) (es : List EntryData) →
-    slice_get (steps_of w.loaded) p.place ≡ Some s → AreObjectives w.store sought o.objective → is_some sought ≡ false →
-    Keeps w.store u → Rests u.now.state → u.now.state ≡ confined w.store.now.state items → picked (pending u.now.state items) o.variable ≡ None → StandsGoing w p (goal (call name args) gs) e k es →
-    Stands (moved w u w.arenas) (Now.Going (point_behind p s)) (labels_step o.objective o items (call_with name args ts e w.store.now.state) (with_rest gs k es))
-none-left w u p s sought o items name args ts gs e k es at are none keeps rests here out stands =
+pub none-left : {M : Type 0} (w : World M) (u : StoreView M) (p : Point) (s : Step) (o : Options) (items : List Item) (name : List ℕ) (args : List Tree) (ts : Trees) (gs : GoalTrees) (e : Places) (k : List Frame) (es : List EntryData) →
+    slice_get (steps_of w.loaded) p.place ≡ Some s → Keeps w.store u → Rests u.now.state → u.now.state ≡ confined w.store.now.state items → picked (pending u.now.state items) o.variable ≡ None → StandsGoing w p (goal (call name args) gs) e k es →
+    Stands (moved w u w.arenas) (Now.Going (point_behind p s)) (labels_step None o items (call_with name args ts e w.store.now.state) (with_rest gs k es))
+none-left w u p s o items name args ts gs e k es at keeps rests here out stands =
     let x : World _ = moved w u w.arenas in
     let there : StandsGoing x p (goal (call name args) gs) e k es = kept-stands w u p (goal (call name args) gs) e k es keeps rests stands in
     let behind_it : Stands x (Now.Going (point_behind p s)) (config (going gs e u.now.state k) es) =
     record { entries = there.entries; runs = going_now (going-behind x p s (call name args) gs e k at (going-of x p (goal (call name args) gs) e u.now.state k there.runs)) } in
-    labels-so w x (Now.Going (point_behind p s)) sought o items (call_with name args ts e w.store.now.state) u.now.state None gs k es are none here out behind_it
+    labels-so x (Now.Going (point_behind p s)) o items (call_with name args ts e w.store.now.state) u.now.state None gs k es here out behind_it
 
 -- ---- a variable is picked
 
@@ -125,10 +103,10 @@ all-left s p word is has =
 choice-stands : {M : Type 0} (w : World M) (v : StoreView M) (mark : M) (p : Point) (s : Step) (fs : List Point) (n : ℕ) (kind : Kind) (y : EntryData) (g : GoalTree) (gs : GoalTrees) (e : Places) (k : List Frame) (es : List EntryData) →
     Pushed w p s fs n → Marks w.order w.store v mark → open_level zero (y ∷ es) ≡ open_level zero es →
     (GoalStands w.loaded (now_here (with_new_frames w fs)) p.base p.place n g e (behind gs k) →
-    KindIs w.loaded w.arenas.collected (now_here (with_new_frames w fs)) w.store.now.state p.base n (length w.arenas.blocks.slots) (length w.arenas.collected) (length w.arenas.collected) kind y) →
+    KindIs w.loaded w.arenas.collected (now_here (with_new_frames w fs)) w.store.now.state p.base n (length w.arenas.blocks.slots) (length w.arenas.collected) (length w.arenas.collected) kind y) → HasNoFound y →
     StandsGoing w p (goal g gs) e k es →
     Stands (with_entry (with_new_frames w fs) v mark (length w.arenas.blocks.slots) p.base n kind) Now.Failing (config failed (y ∷ es))
-choice-stands w v mark p s fs n kind y g gs e k es pushed marks opens kind_is stands =
+choice-stands w v mark p s fs n kind y g gs e k es pushed marks opens kind_is new stands =
     let is : GoingIs w p (goal g gs) e k = going-of w p (goal g gs) e w.store.now.state k stands.runs in
     let size : (s.size ≡ nodes g) × (p.place + nodes g < 2 ^ 32) = going-size w p s g gs e k pushed.0 is in
     let more : MoreFrames w.arenas.frames fs = pushes-more p s w.arenas.frames fs n (omega (arith, size.0, size.1)) pushed.1 in
@@ -148,7 +126,7 @@ choice-stands w v mark p s fs n kind y g gs e k es pushed marks opens kind_is st
         kept = ap slots_kept_by (sym (newest-last (entries_of q) x));
         stack = subst (λ m. StackIs (with_entry q v mark slots p.base n kind) m top (y ∷ es)) (sym count)
             (stack-pushed q v mark slots p.base n top kind y es below marks (kept-within q es below) (omega arith) (omega arith) (base-fits-in q (entry_at (entries_of q) q.arenas.level) in_it.agrees) in_it.agrees
-            (subst (λ h. KindIs w.loaded w.arenas.collected h w.store.now.state p.base n slots top top kind y) (sym (marked-all q)) waits) below.stack);
+            (subst (λ h. KindIs w.loaded w.arenas.collected h w.store.now.state p.base n slots top top kind y) (sym (marked-all q)) waits) new below.stack);
       };
       runs = failing_now;
     }
@@ -164,22 +142,22 @@ alternatives-stand : {M : Type 0} (w : World M) (v : StoreView M) (mark : M) (p 
 unfolding open_level
 alternatives-stand w v mark p s fs n it word name args gs e k es pushed marks has stands =
     choice-stands w v mark p s fs n (all_of p.place it.variable word) (choice (alternatives_left name args it (alternatives_of (value_word word) it.domain)) (back_to e w.store.now.state (behind gs k)))
-    (call name args) gs e k es pushed marks refl (λ is. alternatives_kind is (all-left w.store.now.state it word stands.entries.state.calm.state has) refl) stands
+    (call name args) gs e k es pushed marks refl (λ is. alternatives_kind is (all-left w.store.now.state it word stands.entries.state.calm.state has) refl) tt stands
 
 -- the alternatives of the variable that is picked are left to be tried
-pub some-left : {M : Type 0} (w : World M) (u v : StoreView M) (mark : M) (p : Point) (s : Step) (fs : List Point) (n : ℕ) (it : Pending) (word : Tried) (sought : Option Sought) (o : Options) (items : List Item) (name : List ℕ) (args : List Tree) (ts : Trees) (gs : GoalTrees) (e : Places)
-    (k : List Frame) (es : List EntryData) → Pushed w p s fs n → Marks w.order u v mark → AreObjectives w.store sought o.objective → is_some sought ≡ false → value_word word ≡ o.value →
+pub some-left : {M : Type 0} (w : World M) (u v : StoreView M) (mark : M) (p : Point) (s : Step) (fs : List Point) (n : ℕ) (it : Pending) (word : Tried) (o : Options) (items : List Item) (name : List ℕ) (args : List Tree) (ts : Trees) (gs : GoalTrees) (e : Places)
+    (k : List Frame) (es : List EntryData) → Pushed w p s fs n → Marks w.order u v mark → value_word word ≡ o.value →
     Keeps w.store u → Rests u.now.state → u.now.state ≡ confined w.store.now.state items → picked (pending u.now.state items) o.variable ≡ Some it → domain_of u.now.state it.variable ≡ Some it.domain →
     are_filled e (trees_of args) ≡ true → StandsGoing w p (goal (call name args) gs) e k es →
     Stands (with_entry (with_new_frames (moved w u w.arenas) fs) v mark (length w.arenas.blocks.slots) p.base n (all_of p.place it.variable word)) Now.Failing
-    (labels_step o.objective o items (call_with name args ts e w.store.now.state) (with_rest gs k es))
-some-left w u v mark p s fs n it word sought o items name args ts gs e k es pushed marks are none tries keeps rests here one has filled stands =
+    (labels_step None o items (call_with name args ts e w.store.now.state) (with_rest gs k es))
+some-left w u v mark p s fs n it word o items name args ts gs e k es pushed marks tries keeps rests here one has filled stands =
     let q : World _ = moved w u w.arenas in
     let x : World _ = with_entry (with_new_frames q fs) v mark (length w.arenas.blocks.slots) p.base n (all_of p.place it.variable word) in
     let there : StandsGoing q p (goal (call name args) gs) e k es = kept-stands w u p (goal (call name args) gs) e k es keeps rests stands in
     let c : NameCall = call_with name args ts e w.store.now.state in
     let r : Rest = with_rest gs k es in
-    labels-so w x Now.Failing sought o items c u.now.state (Some it) gs k es are none here one
+    labels-so x Now.Failing o items c u.now.state (Some it) gs k es here one
     (subst (λ b. Stands x Now.Failing (config failed (choice (alternatives_left name (again_by b c u.now.state r).args it (alternatives_of o.value it.domain)) (again_by b c u.now.state r).back ∷ es))) (sym filled)
     (subst (λ values. Stands x Now.Failing (config failed (choice (alternatives_left name args it (alternatives_of values it.domain)) (back_to e u.now.state (behind gs k)) ∷ es))) tries
     (alternatives-stand q v mark p s fs n it word name args gs e k es pushed marks has there)))

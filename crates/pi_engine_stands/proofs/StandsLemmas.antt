@@ -1,8 +1,8 @@
 -- What the entries stand for, where the store and the arenas change behind them.
 use Rattle.std.proofs.Common.{◌≡◌, ◌⊎◌, inl, inr, ℕ, zero, suc, ◌-◌, ◌≤◌, ◌<◌, List, [], ◌∷◌, Option, Some, None, length, take, drop, refl, sym, ◌∙◌, ap, subst, arith}
-use Rattle.std.specs.Prelude.{slice_get}
+use Rattle.std.specs.Prelude.{slice_get, ⊤}
 use Rattle.pi_terms.specs.Tree.{Tree}
-use Rattle.pi_constraints.specs.Store.{StoreView, IsGood, Terms, Extend}
+use Rattle.pi_constraints.specs.Store.{StoreView, Moment, IsGood, IsName, Terms, Extend, Beside, StandsBeside}
 use Rattle.pi_constraints.specs.State.{State}
 use Rattle.pi_engine_stands.specs.Rests.{Rests}
 use Rattle.pi_constraints.specs.declared.store.Ref.{Ref}
@@ -11,10 +11,11 @@ use Rattle.pi_engine_arenas.specs.declared.frames.Point.{Point}
 use Rattle.pi_engine_arenas.specs.Blocks.{IsKept, brought_back}
 use Rattle.pi_engine_arenas.specs.Arenas.{ArenasView, entry_at}
 use Rattle.pi_engine_arenas.specs.declared.arenas.Entry.{Entry}
-use Rattle.pi_meaning.specs.Machine.Configuration.{Entry as EntryData, choice, strict, catch_level, left, list_level}
+use Rattle.pi_meaning.specs.Machine.Configuration.{Entry as EntryData, choice, strict, catch_level, left, once_level, not_level, if_level, guard_level, value_level, list_level, number_level, search_level}
 use Rattle.pi_meaning.specs.Machine.Shape.{open_level}
 use Rattle.pi_engine_stands.specs.Here.{Here, Ends}
-use Rattle.pi_engine_stands.specs.Stands.{World, entries_of, entry_ends, level_ends, back_here, Agrees, agrees_from, KindIs, rules_kind, facts_kind, branches_kind, alternatives_kind, once_kind, not_kind, if_kind, guard_kind, apply_kind, collect_kind, count_kind, catch_kind, exit_kind, EntryIs, IsAbove, StackIs, no_entries, entry_above, Loaded}
+use Rattle.pi_engine_stands.specs.Stands.{World, entries_of, entry_ends, level_ends, back_here, Agrees, agrees_from, KindIs, rules_kind, facts_kind, branches_kind, alternatives_kind, once_kind, not_kind, if_kind, guard_kind, apply_kind, collect_kind, count_kind, search_kind, catch_kind, exit_kind, IsFoundBeside, KeepsFound, EntryIs, IsAbove, StackIs, no_entries, entry_above, Loaded}
+use Rattle.pi_terms.proofs.OptionLemmas.{none-some}
 use Rattle.pi_engine_stands.proofs.HereLemmas.{part-agrees, take-agrees}
 
 -- the same run with another store and other arenas
@@ -88,6 +89,104 @@ entry-facts w n top es i x (entry_above m from fs z y here is below) within at =
     facts-here w m i x z here (facts-of w fs (entry_at (entries_of w) m) from top m z y (stack-length w m from fs below) is)
     (λ h. entry-facts w m from fs i x below h at) (last-or-below i m within) at
 
+-- ---- what is kept beside marks
+
+same-words : (b : Beside) (m n : Moment) → n ≡ m → b.from ≡ m.words → b.from ≡ n.words
+same-words b m n same is = is ∙ sym (ap (λ r. r.words) same)
+
+-- what stands beside a mark stands there after
+pub stands-beside : {M : Type 0} (v s : StoreView M) (m : M) → s.beside m ≡ v.beside m → s.at_mark m ≡ v.at_mark m → ((k : ℕ) (name : List ℕ) → IsName v k name → IsName s k name) → StandsBeside v m → StandsBeside s m
+stands-beside v s m beside same names is b has =
+    let before : v.beside m ≡ Some b = sym beside ∙ has in
+    (same-words b (v.at_mark m) (s.at_mark m) same (is b before).0, λ k name at. names k name ((is b before).1 k name at))
+
+-- what an entry has found stays found
+pub found-stays : {M : Type 0} (v s : StoreView M) (m : M) (y : EntryData) → s.beside m ≡ v.beside m → s.at_mark m ≡ v.at_mark m → ((k : ℕ) (name : List ℕ) → IsName v k name → IsName s k name) → KeepsFound v m y → KeepsFound s m y
+found-stays v s m (choice c b) beside same names found = tt
+found-stays v s m (strict once_level b) beside same names found = tt
+found-stays v s m (strict not_level b) beside same names found = tt
+found-stays v s m (strict (if_level g other) b) beside same names found = tt
+found-stays v s m (strict (guard_level called c cs) b) beside same names found = tt
+found-stays v s m (strict (value_level called into) b) beside same names found = tt
+found-stays v s m (strict (list_level slot into got) b) beside same names found = tt
+found-stays v s m (strict (number_level into n) b) beside same names found = tt
+found-stays v s m (strict (search_level x labelled f) b) beside same names found = (
+  subst (λ o. IsFoundBeside o f) (sym beside) found.0,
+  stands-beside v s m beside same names found.1,
+)
+found-stays v s m (catch_level ball handler b) beside same names found = tt
+found-stays v s m left beside same names found = tt
+
+-- what stands for an entry with a mark beside which nothing is kept
+abbrev pub HasNoFound : EntryData → Type 0
+HasNoFound (choice c b) = ⊤
+HasNoFound (strict once_level b) = ⊤
+HasNoFound (strict not_level b) = ⊤
+HasNoFound (strict (if_level g other) b) = ⊤
+HasNoFound (strict (guard_level called c cs) b) = ⊤
+HasNoFound (strict (value_level called into) b) = ⊤
+HasNoFound (strict (list_level slot into got) b) = ⊤
+HasNoFound (strict (number_level into n) b) = ⊤
+HasNoFound (strict (search_level x labelled f) b) = f ≡ None
+HasNoFound (catch_level ball handler b) = ⊤
+HasNoFound left = ⊤
+
+-- an entry that is no search's
+abbrev pub IsNoSearch : EntryData → Type 0
+IsNoSearch (choice c b) = ⊤
+IsNoSearch (strict once_level b) = ⊤
+IsNoSearch (strict not_level b) = ⊤
+IsNoSearch (strict (if_level g other) b) = ⊤
+IsNoSearch (strict (guard_level called c cs) b) = ⊤
+IsNoSearch (strict (value_level called into) b) = ⊤
+IsNoSearch (strict (list_level slot into got) b) = ⊤
+IsNoSearch (strict (number_level into n) b) = ⊤
+IsNoSearch (strict (search_level x labelled f) b) = ⊥
+IsNoSearch (catch_level ball handler b) = ⊤
+IsNoSearch left = ⊤
+
+pub no-search-none : (y : EntryData) → IsNoSearch y → HasNoFound y
+no-search-none (choice c b) is = tt
+no-search-none (strict once_level b) is = tt
+no-search-none (strict not_level b) is = tt
+no-search-none (strict (if_level g other) b) is = tt
+no-search-none (strict (guard_level called c cs) b) is = tt
+no-search-none (strict (value_level called into) b) is = tt
+no-search-none (strict (list_level slot into got) b) is = tt
+no-search-none (strict (number_level into n) b) is = tt
+no-search-none (strict (search_level x labelled f) b) is = absurd is
+no-search-none (catch_level ball handler b) is = tt
+no-search-none left is = tt
+
+pub no-search-found : {M : Type 0} (v : StoreView M) (m : M) (y : EntryData) → IsNoSearch y → KeepsFound v m y
+no-search-found v m (choice c b) is = tt
+no-search-found v m (strict once_level b) is = tt
+no-search-found v m (strict not_level b) is = tt
+no-search-found v m (strict (if_level g other) b) is = tt
+no-search-found v m (strict (guard_level called c cs) b) is = tt
+no-search-found v m (strict (value_level called into) b) is = tt
+no-search-found v m (strict (list_level slot into got) b) is = tt
+no-search-found v m (strict (number_level into n) b) is = tt
+no-search-found v m (strict (search_level x labelled f) b) is = absurd is
+no-search-found v m (catch_level ball handler b) is = tt
+no-search-found v m left is = tt
+
+pub found-none : {M : Type 0} (v : StoreView M) (m : M) (y : EntryData) → v.beside m ≡ None → HasNoFound y → KeepsFound v m y
+found-none v m (choice c b) none has = tt
+found-none v m (strict once_level b) none has = tt
+found-none v m (strict not_level b) none has = tt
+found-none v m (strict (if_level g other) b) none has = tt
+found-none v m (strict (guard_level called c cs) b) none has = tt
+found-none v m (strict (value_level called into) b) none has = tt
+found-none v m (strict (list_level slot into got) b) none has = tt
+found-none v m (strict (number_level into n) b) none has = tt
+found-none v m (strict (search_level x labelled f) b) none has = (
+  subst (λ o. IsFoundBeside o f) (sym none) (subst (λ r. IsFoundBeside None r) (sym has) tt),
+  λ b is. absurd (none-some none is),
+)
+found-none v m (catch_level ball handler b) none has = tt
+found-none v m left none has = tt
+
 -- ---- changes behind the first so many entries
 
 -- the first so many entries, and all that they bring back, stay
@@ -100,6 +199,8 @@ pub record Leaves {M : Type 0} (w : World M) (s : StoreView M) (a : ArenasView M
       (x.back.frames ≤ length a.frames) × (take x.back.frames a.frames ≡ take x.back.frames w.arenas.frames)
   pub collected : take top w.arenas.collected ≡ take top a.collected
   pub enough : top ≤ length a.collected
+  pub beside : (m : M) → s.beside m ≡ w.store.beside m
+  pub names : (k : ℕ) (name : List ℕ) → IsName w.store k name → IsName s k name
 
 abbrev pub here_of : Terms → List (Option Ref) → List Point → Ends → Here
 here_of t xs fs ends = record { terms = t; slots = xs; frames = fs; ends = ends }
@@ -131,6 +232,7 @@ kind-moves l c d h s base frame slots from to kind y same enough (collect_kind {
     (part-agrees from (to - from) to d c (omega (arith, below)) (sym same))
     (collect_kind is below enough)
 kind-moves l c d h s base frame slots from to kind y same enough (count_kind is one) = count_kind is one
+kind-moves l c d h s base frame slots from to kind y same enough (search_kind own labels held fit order one) = search_kind own labels held fit order one
 kind-moves l c d h s base frame slots from to kind y same enough (catch_kind is stays one) = catch_kind is stays one
 kind-moves l c d h s base frame slots from to kind y same enough (exit_kind one) = exit_kind one
 
@@ -147,6 +249,7 @@ kind-order l c h s base frame slots from to kind y (guard_kind is over one) = om
 kind-order l c h s base frame slots from to kind y (apply_kind is free args fit one) = omega (arith, one)
 kind-order l c h s base frame slots from to kind y (collect_kind is below some) = below
 kind-order l c h s base frame slots from to kind y (count_kind is one) = omega (arith, one)
+kind-order l c h s base frame slots from to kind y (search_kind own labels held fit order one) = omega (arith, one)
 kind-order l c h s base frame slots from to kind y (catch_kind is stays one) = omega (arith, one)
 kind-order l c h s base frame slots from to kind y (exit_kind one) = omega (arith, one)
 
@@ -201,6 +304,7 @@ entry-moves w s a n top j from to fs x y leaves fit some at is below =
           (kind-moves w.loaded w.arenas.collected a.collected (back_here w x) (w.store.at_mark x.mark).state x.back.base x.back.frame x.back.blocks.slots from to x.back.kind y
           (take-agrees to top w.arenas.collected a.collected some leaves.collected) (omega (arith, some, leaves.enough)) is.kind));
       older = above-moves w s a (entry_at (entries_of w) j) (entry_at a.entries j) x (entry_at-take (entries_of w) a.entries n j (omega (arith, fit)) leaves.entries) is.older;
+      found = found-stays w.store s x.mark y (leaves.beside x.mark) mark leaves.names is.found;
     }
 
 pub stack-moves : {M : Type 0} (w : World M) (s : StoreView M) (a : ArenasView M) (n top m to : ℕ) (es : List EntryData) → Leaves w s a n top → m ≤ n → to ≤ top →

@@ -1,11 +1,13 @@
 -- A call of a term as a step of the machine.
-use Rattle.std.proofs.Common.{◌≡◌, ◌≢◌, ℕ, zero, suc, ◌+◌, ◌≤◌, ◌<◌, ◌^◌, Bool, true, List, ◌++◌, Some, None, length, take, drop, map, Option, refl, sym, ◌∙◌, ap, subst, arith}
+use Rattle.std.proofs.Common.{◌≡◌, ◌≢◌, ℕ, zero, suc, ◌+◌, ◌≤◌, ◌<◌, ◌^◌, Bool, true, false, List, ◌++◌, Some, None, length, take, drop, map, Option, refl, sym, ◌∙◌, ap, subst, arith}
 use Rattle.std.specs.Prelude.{slice_get, codes}
 use Rattle.pi_terms.specs.Tree.{Tree, Trees, trees_of, tree_count}
 use Rattle.pi_terms.specs.Places.{Places}
 use Rattle.pi_constraints.specs.Store.{StoreView, AreTerms, Terms}
 use Rattle.pi_engine_stands.specs.Rests.{Rests}
 use Rattle.pi_constraints.specs.Evaluation.{EvaluatedAll, evaluated_all}
+use Rattle.pi_effects.specs.Rows.{has_line}
+use Rattle.pi_settling.specs.SolveCalls.{solve_calls, is_solve}
 use Rattle.pi_meaning.specs.Shared.View.{View}
 use Rattle.pi_meaning.specs.Shared.Names.{is_call}
 use Rattle.pi_core.specs.GoalTree.{GoalTree, GoalTrees, call, goal, no_goals, nodes}
@@ -143,7 +145,7 @@ term-raises w v a p s operands arity ball view g gs e k es node at stands writes
 abbrev pub named_point : ℕ → ℕ → ℕ → Point
 named_point place base frame = record { place = place; count = 1; base = base; frame = frame }
 
-arguments-hold : (t : Terms) (slots : List (Option Ref)) (base many : ℕ) (ts : Trees) → HoldsArguments t slots base many ts → Holds t slots (record { base = base; first = 0; count = many }) (in_places ts)
+pub arguments-hold : (t : Terms) (slots : List (Option Ref)) (base many : ℕ) (ts : Trees) → HoldsArguments t slots base many ts → Holds t slots (record { base = base; first = 0; count = many }) (in_places ts)
 arguments-hold t slots base many ts holds =
     let same : base ≡ base + 0 = omega arith in
     record {
@@ -183,6 +185,11 @@ named-stands w c d rs b leaves limit n place many it ts e k es caller room new k
       });
     }
 
+-- `call` isn't `solve`
+call-no-solve : (k : ℕ) → is_solve (codes "call") k ≡ false
+unfolding has_line solve_calls
+call-no-solve k = refl
+
 pub term-enters : {M : Type 0} (w : World M) (v : StoreView M) (a : ArenasView M) (fs : List Point) (c d : BlocksView) (rs : List Ref) (p : Point) (s : Step) (operands arity n place : ℕ) (it : GoalTree) (ts : Trees) (view : View) (g : GoalTree) (gs : GoalTrees) (e : Places) (k : List Frame) (es : List EntryData) →
     s.node ≡ Node.CallTerm operands arity → slice_get (steps_of w.loaded) p.place ≡ Some s → (stands : StandsGoing w p (goal g gs) e k es) →
     let all : EvaluatedAll = term_arguments w operands arity e in
@@ -203,7 +210,7 @@ term-enters w v a fs c d rs p s operands arity n place it ts view g gs e k es no
     let stack2 : StackStands (with_new_frames w1 fs) es = stack-framed w1 fs es more stack1 in
     let in_it : Entered (with_new_frames w1 fs) p n g all.slots (behind gs k) = entered-behind w1 p s g gs all.slots k fs n at more pushes going1 in
     let last : s.is_last ≡ in_it.at.own =
-    said-last (steps_of w.loaded) p.place g (codes "call") (operand_trees T operands arity) in_it.at.own s (term-of w p s g gs e k es operands arity node at stands) in_it.at.here.says at in
+    said-last (steps_of w.loaded) p.place g (codes "call") (operand_trees T operands arity) in_it.at.own s (term-of w p s g gs e k es operands arity node at stands) (call-no-solve (length (operand_trees T operands arity))) in_it.at.here.says at in
     let room : (limit : ℕ) × Room a.blocks c in_it.block in_it.at.leaves limit =
     room-of a.blocks c in_it.block in_it.at.leaves s.is_last in_it.at.own p.base (behind gs k) in_it.base (omega (arith, in_it.base, in_it.slots.within)) (kept-within (with_new_frames w1 fs) es stack2) last in_it.at.own_leaves gives in
     let caller : Caller (with_new_frames w1 fs) in_it.block in_it.at.leaves n all.slots (behind gs k) es =

@@ -77,7 +77,7 @@ no-other-node w before r c number place caller z code step runs is found named i
 -- ---- the level is left
 
 -- the caller's block is in front of the call's, so it is as it was when the call was made
-call-left : {M : Type 0} (w : World M) (b : ArenasView M) (es : List EntryData) (i from place caller : ℕ) (x : Entry M) (y : EntryData) (g : GoalTree) (below : List EntryData) (e : Places) (k : List Frame) →
+pub call-left : {M : Type 0} (w : World M) (b : ArenasView M) (es : List EntryData) (i from place caller : ℕ) (x : Entry M) (y : EntryData) (g : GoalTree) (below : List EntryData) (e : Places) (k : List Frame) →
     StackStands w es → agrees_from w (Some x) (now_here w) → slice_get (entries_of w) i ≡ Some x → EntryIs w below (entry_at (entries_of w) i) from (length w.arenas.collected) x y → StackIs w i from below → from ≡ length w.arenas.collected →
     LeavesLevel w.arenas b i (without_call x.back caller) → GoalStands w.loaded (back_here w x) caller place x.back.frame g e k → block_end (block_at w.loaded place caller) ≤ x.back.base → GoalLeft w b caller place x.back.frame g e k below
 call-left w b es i from place caller x y g below e k stands agrees at is stack none left own fits =

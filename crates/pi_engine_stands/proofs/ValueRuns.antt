@@ -27,7 +27,7 @@ use Rattle.pi_meaning.specs.Machine.Configuration.{Frame, give, Entry as EntryDa
 use Rattle.pi_meaning.specs.Machine.Step.{Open, step, silently, frame_step, newest_open}
 use Rattle.pi_meaning.specs.Machine.Shape.{IsBalanced, open_level}
 use Rattle.pi_engine_stands.specs.Here.{Block, Here, with_value, Holds, IsReadable, GoesOn, answers, gives, returns_to_end, more_of_block, returns_to, valued}
-use Rattle.pi_engine_stands.specs.Stands.{World, Loaded, tables_in, steps_of, entries_of, ends_of, entry_ends, level_ends, back_here, now_here, Agrees, KindIs, once_kind, not_kind, if_kind, guard_kind, apply_kind, collect_kind, count_kind, catch_kind, StackStands, StackBelow, NowIs, going_now, GoingIs, settling_now}
+use Rattle.pi_engine_stands.specs.Stands.{World, Loaded, tables_in, steps_of, entries_of, ends_of, entry_ends, level_ends, back_here, now_here, Agrees, KindIs, once_kind, not_kind, if_kind, guard_kind, apply_kind, collect_kind, count_kind, search_kind, catch_kind, StackStands, StackBelow, NowIs, going_now, GoingIs, settling_now}
 use Rattle.pi_engine_arenas.specs.Frames.{slot_number}
 use Rattle.pi_engine_stands.specs.Evaluates.{Evaluates}
 use Rattle.pi_engine_stands.specs.Goes.{AtGoal}
@@ -60,6 +60,7 @@ call-kind l c h t base frame slots from to start kind s b ends (guard_kind call 
 call-kind l c h t base frame slots from to start kind s b ends (apply_kind {place = place} {caller = caller} own free args fit one) = (place, caller, refl)
 call-kind l c h t base frame slots from to start kind s b ends (collect_kind own order some) = absurd cc
 call-kind l c h t base frame slots from to start kind s b ends (count_kind own one) = absurd cc
+call-kind l c h t base frame slots from to start kind s b ends (search_kind own labels held fit order one) = absurd cc
 
 no-catch : (l : Loaded) (c : List Tree) (h : Here) (t : State) (base frame slots from to start : ℕ) (kind : Kind) (ball : Tree) (handler : GoalTree) (b : BackData) → ends_of l kind base ≡ with_value start → KindIs l c h t base frame slots from to kind (catch_level ball handler b) → ⊥
 no-catch l c h t base frame slots from to start kind ball handler b ends (catch_kind own stays one) = cc

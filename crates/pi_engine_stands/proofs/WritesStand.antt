@@ -39,6 +39,8 @@ writes-leave w v bs b f s n writes =
       frames = λ i x h at fit. (fit, refl);
       collected = refl;
       enough = omega arith;
+      beside = writes.keeps.beside;
+      names = writes.keeps.names;
     }
 
 -- the entries stay

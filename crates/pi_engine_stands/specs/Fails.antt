@@ -69,6 +69,7 @@ pub record IsBack {M : Type 0} (w : World M) (back : Back) (y : EntryData) (es :
   pub stack : StackIs w below from es
   pub here : now_here w ≡ back_here w entry
   pub now : w.store.now.state ≡ (w.store.at_mark entry.mark).state
+  pub words : w.store.now.words ≡ (w.store.at_mark entry.mark).words
   pub level : w.arenas.level ≡ back.level
   pub kept : w.arenas.blocks.kept ≡ slots_kept_by (newest (entries_of w))
   pub code : IsCodeOf w.loaded.code (tables_in w.loaded) w.store.names w.loaded.preds

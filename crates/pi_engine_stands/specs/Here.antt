@@ -102,13 +102,13 @@ abbrev pub SaysLast : List Step → ℕ → Bool → Type 0
 SaysLast steps place last = (s : Step) → slice_get steps place ≡ Some s → s.is_last ≡ last
 
 -- The steps of a goal say it: the goal's own says `last`. Of a sequence that is last the last goal is last, of alternatives
--- each one, and so on; what a level waits for is never last.
+-- each one, and so on; what a level waits for is never last. A call of `solve` gives nothing of its block back, so nothing is said of it.
 unfoldable mutual
   pub SayLast : List Step → ℕ → GoalTree → Bool → Type 0
   SayLast steps at truth last = SaysLast steps at last
   SayLast steps at fail last = SaysLast steps at last
   SayLast steps at tick last = SaysLast steps at last
-  SayLast steps at (call name args) last = SaysLast steps at last
+  SayLast steps at (call name args) last = is_solve name (length args) ≡ false → SaysLast steps at last
   SayLast steps at (apply name args slot) last = SaysLast steps at last
   SayLast steps at (seq gs) last = SaysLast steps at last × LastOfAll steps (at + 1) gs last
   SayLast steps at (alternatives gs) last = SaysLast steps at last × EachLast steps (at + 1) gs last

@@ -6,6 +6,8 @@ pub mod Settling
 pub mod Changes
 pub mod Views
 pub mod Makes
+pub mod Rounds
+pub mod Searches
 pub mod Solves
 pub mod Does
 pub mod Fails

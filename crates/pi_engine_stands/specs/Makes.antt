@@ -13,6 +13,7 @@ use Rattle.pi_engine_code.specs.declared.code.Step.{Step}
 use Rattle.pi_engine_code.specs.declared.code.Node.{Node}
 use Rattle.pi_engine_arenas.specs.declared.arenas.Kind.{Kind}
 use Rattle.pi_engine_arenas.specs.declared.arenas.Strict.{Strict}
+use Rattle.pi_engine_arenas.specs.declared.arenas.Search.{Search}
 use Rattle.pi_engine_arenas.specs.declared.run.Now.{Now}
 use Rattle.pi_meaning.specs.Machine.Configuration.{Frame, Entry, Config, config, going, catch_level, behind}
 use Rattle.pi_meaning.specs.Machine.Step.{Outcome, silently, with_tick, quietly, writing, answering, ending, goal_step, step, inside, back_to, deeper, with_rest, loading}
@@ -91,6 +92,9 @@ apply_at place caller = Kind.Strict (Strict.Apply place caller)
 
 abbrev pub count_at : ℕ → ℕ → Kind
 count_at place n = Kind.Strict (Strict.Count place n)
+
+abbrev pub search_at : Search → Kind
+search_at site = Kind.Strict (Strict.Search site)
 
 abbrev pub collect_at : ℕ → ℕ → Kind
 collect_at place first = Kind.Strict (Strict.Collect place first)

@@ -1,5 +1,5 @@
 -- What a call of `solve` does whose arguments are evaluated and which asks to label.
-use Rattle.std.specs.Prelude.{◌≡◌, ℕ, true, List, Some, slice_get}
+use Rattle.std.specs.Prelude.{◌≡◌, ℕ, true, List, Some, None, slice_get}
 use Rattle.pi_terms.specs.Tree.{Tree, Trees, trees_of}
 use Rattle.pi_terms.specs.Places.{Places}
 use Rattle.pi_constraints.specs.declared.constraint.Item.{Item}
@@ -17,10 +17,10 @@ use Rattle.pi_engine_arenas.specs.declared.frames.Point.{Point}
 use Rattle.pi_engine_stands.specs.Changes.{Change}
 use Rattle.pi_engine_stands.specs.Stands.{steps_of, Stands, StandsGoing}
 
--- The call at a point, whose slots hold each of its variables, labels with these options these items, by their Refs.
+-- The call at a point, whose slots hold each of its variables, labels with these options these items, by their Refs. An objective is passed over.
 abbrev pub Labels : {M : Type 0} → Point → Step → Options → List Ref → Change M → Type 0
 Labels p s chosen refs made =
     (o : Wanted) (items : List Item) (name : List ℕ) (args : List Tree) (ts : Trees) (gs : GoalTrees) (e : Places) (k : List Frame) (es : List Entry) →
     slice_get (steps_of made.before.loaded) p.place ≡ Some s → AreOptions made.before.store chosen o → AreRefsOf made.before.store refs items →
     are_filled e (trees_of args) ≡ true → StandsGoing made.before p (goal (call name args) gs) e k es →
-    Stands made.after made.now (labels_step o.objective o items (name_call name args (record { trees = ts; slots = e; state = made.before.store.now.state })) (with_rest gs k es))
+    Stands made.after made.now (labels_step None o items (name_call name args (record { trees = ts; slots = e; state = made.before.store.now.state })) (with_rest gs k es))

@@ -1,9 +1,10 @@
 -- What a run stands for: which configuration its store and its arenas are.
-use Rattle.pi_constraints.specs.Store.{Extend, Terms, StoreView, IsGood}
+use Rattle.std.specs.Prelude.{not as is_not}
+use Rattle.pi_constraints.specs.Store.{Extend, Terms, StoreView, IsGood, Beside, StandsBeside}
 use Rattle.pi_engine_code.specs.Laid.{IsNotBuiltIn}
 use Rattle.pi_engine_code.specs.LaidRules.{IsTestOf}
 use Rattle.std.specs.Prelude.{◌≡◌, ◌≢◌, ◌↔◌, ℕ, zero, suc, ◌+◌, ◌-◌, ◌≤◌, Bool, true, false, List, [], ◌∷◌, Option, Some, None, length, map, take, drop, slice_get, AllPairs, IsTrue, IsSome, is_some, option_map, ⊤}
-use Rattle.pi_terms.specs.Tree.{Tree, Trees, comp}
+use Rattle.pi_terms.specs.Tree.{Tree, Trees, no_trees, tree, comp}
 use Rattle.pi_terms.specs.Places.{Places}
 use Rattle.pi_constraints.specs.State.{State, domain_of}
 use Rattle.pi_engine_stands.specs.Rests.{Rests}
@@ -25,6 +26,9 @@ use Rattle.pi_engine_code.specs.declared.code.Code.{Code}
 use Rattle.pi_engine_arenas.specs.declared.frames.Point.{Point}
 use Rattle.pi_engine_arenas.specs.declared.arenas.Kind.{Kind}
 use Rattle.pi_engine_arenas.specs.declared.arenas.Strict.{Strict}
+use Rattle.pi_engine_arenas.specs.declared.arenas.Search.{Search as Site}
+use Rattle.pi_settling.specs.Words.{plain_words}
+use Rattle.pi_meaning.specs.Machine.Step.{round_goal}
 use Rattle.pi_engine_arenas.specs.declared.arenas.Alternatives.{Alternatives}
 use Rattle.pi_label.specs.Words.{value_word, alternative_of}
 use Rattle.pi_settling.specs.Choices.{Pending, Alternative, alternatives as alternatives_of}
@@ -42,7 +46,7 @@ use Rattle.pi_meaning.specs.Machine.Shape.{open_level}
 use Rattle.pi_meaning.specs.Shared.Settle.{settlement}
 use Rattle.pi_engine_settle.specs.Due.{IsDueFor}
 use Rattle.pi_engine_settle.specs.Settles.{LeftBy}
-use Rattle.pi_meaning.specs.Machine.Configuration.{Called, rules_left, facts_left, branches_left, alternatives_left, once_level, not_level, if_level, guard_level, value_level, list_level, number_level, Frame, Entry as EntryData, choice, strict, catch_level, left, Now as NowData, going, settling, telling, failed, raising, Config, config}
+use Rattle.pi_meaning.specs.Machine.Configuration.{Called, rules_left, facts_left, branches_left, alternatives_left, Search, Found, once_level, not_level, if_level, guard_level, value_level, list_level, number_level, search_level, Frame, Entry as EntryData, choice, strict, catch_level, left, Now as NowData, going, settling, telling, failed, raising, Config, config}
 use Rattle.pi_engine_arenas.specs.declared.run.Run.{Run}
 
 -- ---- programs in tables
@@ -164,6 +168,14 @@ rule_shape p r base = record { base = base; first = 0; count = 0 }
 abbrev pub rule_block : Loaded → ℕ → ℕ → ℕ → Block
 rule_block l p r base = rule_shape (slice_get l.code.predicates.items p) (slice_get l.code.rules.items r) base
 
+-- the block of the call that labels in a round of a search: it has the words and the variables alone
+abbrev pub round_block : ℕ → Block
+round_block base = record { base = base; first = 0; count = 2 }
+
+-- what the block of a search holds: the arguments of that call, and the expression
+abbrev pub search_held : Search → Trees
+search_held x = tree (plain_words x.options) (tree x.vars (tree x.objective.expression no_trees))
+
 -- how the level of an entry ends
 abbrev pub ends_of : Loaded → Kind → ℕ → Ends
 ends_of l (Kind.Strict (Strict.Once place)) base = in_block (block_at l place base)
@@ -173,6 +185,7 @@ ends_of l (Kind.Strict (Strict.Guard p r)) base = in_block (rule_block l p r bas
 ends_of l (Kind.Strict (Strict.Apply place caller)) base = with_value base
 ends_of l (Kind.Strict (Strict.Collect place first)) base = in_block (block_at l place base)
 ends_of l (Kind.Strict (Strict.Count place n)) base = in_block (block_at l place base)
+ends_of l (Kind.Strict (Strict.Search it)) base = in_block (round_block base)
 ends_of l (Kind.Catch place) base = in_block (block_at l place base)
 ends_of l (Kind.Rules p r) base = with_value base
 ends_of l (Kind.Facts p r) base = with_value base
@@ -293,10 +306,35 @@ pub data KindIs (l : Loaded) (collected : List Tree) (h : Here) (s : State) (bas
       KindIs l collected h s base frame slots from to (Kind.Strict (Strict.Collect place from)) (strict (list_level value into (values_between collected from to)) (record { slots = e; state = s; frames = k }))
   count_kind : {place into n : ℕ} {g : GoalTree} {e : Places} {k : List Frame} → GoalStands l h base place frame (count g into) e k → from ≡ to →
       KindIs l collected h s base frame slots from to (Kind.Strict (Strict.Count place n)) (strict (number_level into n) (record { slots = e; state = s; frames = k }))
+  search_kind : {it : Site} {name : List ℕ} {args : List Tree} {x : Search} {f : Option Found} {e : Places} {k : List Frame} →
+      GoalStands l h it.caller it.place frame (GoalTree.call name args) e k → IsHere (tables_in l) (steps_of l) (round_block base) it.goal round_goal true →
+      HoldsArguments h.terms h.slots base 3 (search_held x) → block_end (block_at l it.place it.caller) ≤ base → it.greatest ≡ x.objective.greatest → from ≡ to →
+      KindIs l collected h s base frame slots from to (Kind.Strict (Strict.Search it)) (strict (search_level x (is_not it.is_settling) f) (record { slots = e; state = s; frames = k }))
   catch_kind : {place : ℕ} {g handler : GoalTree} {wanted : Tree} {e : Places} {k : List Frame} → GoalStands l h base place frame (catch g wanted handler) e k →
       evaluated wanted e s ≡ record { tree = (evaluated wanted e s).tree; slots = e; state = s } → from ≡ to →
       KindIs l collected h s base frame slots from to (Kind.Catch place) (catch_level (evaluated wanted e s).tree handler (record { slots = e; state = s; frames = k }))
   exit_kind : from ≡ to → KindIs l collected h s base frame slots from to Kind.Exit left
+
+-- what is kept beside the mark of a search is the answer that was found last, and how many rounds may follow
+abbrev pub IsFoundBeside : Option Beside → Option Found → Type 0
+IsFoundBeside None None = ⊤
+IsFoundBeside None (Some f) = ⊥
+IsFoundBeside (Some b) None = ⊥
+IsFoundBeside (Some b) (Some f) = (b.state ≡ f.state) × (b.number ≡ f.left) × Rests f.state
+
+-- the mark of a search keeps that, and it can be brought back
+abbrev pub KeepsFound : {M : Type 0} → StoreView M → M → EntryData → Type 0
+KeepsFound v m (choice c b) = ⊤
+KeepsFound v m (strict once_level b) = ⊤
+KeepsFound v m (strict not_level b) = ⊤
+KeepsFound v m (strict (if_level g other) b) = ⊤
+KeepsFound v m (strict (guard_level called c cs) b) = ⊤
+KeepsFound v m (strict (value_level called into) b) = ⊤
+KeepsFound v m (strict (list_level slot into got) b) = ⊤
+KeepsFound v m (strict (number_level into n) b) = ⊤
+KeepsFound v m (strict (search_level x labelled f) b) = IsFoundBeside (v.beside m) f × StandsBeside v m
+KeepsFound v m (catch_level ball handler b) = ⊤
+KeepsFound v m left = ⊤
 
 -- an entry was made at or behind the one below it
 abbrev pub IsAbove : {M : Type 0} → World M → Option (Entry M) → Entry M → Type 0
@@ -314,6 +352,7 @@ pub record EntryIs {M : Type 0} (w : World M) (es : List EntryData) (below : Opt
   pub agrees : Agrees w x.back.level (back_here w x)
   pub kind : KindIs w.loaded w.arenas.collected (back_here w x) (w.store.at_mark x.mark).state x.back.base x.back.frame x.back.blocks.slots from to x.back.kind y
   pub older : IsAbove w below x
+  pub found : KeepsFound w.store x.mark y
 
 -- the stack of the first so many entries, with the number of values that were collected below
 pub data StackIs {M : Type 0} (w : World M) : ℕ → ℕ → List EntryData → Type 0 where

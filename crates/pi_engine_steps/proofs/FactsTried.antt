@@ -28,7 +28,7 @@ use Rattle.pi_meaning.specs.Machine.Step.{with_fact, from_unifying, silently, fa
 use Rattle.pi_engine_facts.specs.Trying.{IsFirst, IsNext, numbered}
 use Rattle.pi_engine_facts.proofs.TryingLemmas.{next-there}
 use Rattle.pi_engine_stands.specs.Here.{Here, AreHeld, HoldsArguments}
-use Rattle.pi_engine_stands.specs.Stands.{World, Loaded, tables_in, back_here, IsPredicateOf, CallStands, KindIs, rules_kind, facts_kind, branches_kind, alternatives_kind, once_kind, not_kind, if_kind, guard_kind, apply_kind, collect_kind, count_kind, catch_kind, exit_kind, Stands}
+use Rattle.pi_engine_stands.specs.Stands.{World, Loaded, tables_in, back_here, IsPredicateOf, CallStands, KindIs, rules_kind, facts_kind, branches_kind, alternatives_kind, once_kind, not_kind, if_kind, guard_kind, apply_kind, collect_kind, count_kind, search_kind, catch_kind, exit_kind, Stands}
 use Rattle.pi_engine_stands.specs.Tries.{CallIs, HasArguments, KeepsCall, keeps_new, keeps_own, LeavesLater, TriesFacts}
 use Rattle.pi_engine_stands.specs.Fails.{ComesTo, IsBack}
 use Rattle.pi_engine_stands.proofs.StandsLemmas.{moved}
@@ -184,6 +184,7 @@ facts-shape l c h t base frame slots from to p r kind y named (guard_kind call f
 facts-shape l c h t base frame slots from to p r kind y named (apply_kind own free args fit one) = absurd cc
 facts-shape l c h t base frame slots from to p r kind y named (collect_kind own order some) = absurd cc
 facts-shape l c h t base frame slots from to p r kind y named (count_kind own one) = absurd cc
+facts-shape l c h t base frame slots from to p r kind y named (search_kind own labels held fit order one) = absurd cc
 facts-shape l c h t base frame slots from to p r kind y named (catch_kind own stays one) = absurd cc
 facts-shape l c h t base frame slots from to p r kind y named (exit_kind one) = absurd cc
 

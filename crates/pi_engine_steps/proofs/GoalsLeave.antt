@@ -37,7 +37,7 @@ use Rattle.pi_engine_arenas.specs.declared.run.Now.{Now}
 use Rattle.pi_engine_stands.specs.Does.{ComesAfter}
 use Rattle.pi_engine_steps.specs.Done.{Leaves, IsNext}
 
-left-so : (s r : State) → Follows s r → MaySettleAfter s r → Left s r
+pub left-so : (s r : State) → Follows s r → MaySettleAfter s r → Left s r
 left-so s r follows may = record { follows = follows; state = may.state; settles = may.settles; agents = may.agents }
 
 same-effect : (P : Effect → Type 0) (x e : Effect) → Some x ≡ Some e → P x → P e
@@ -49,7 +49,7 @@ within-left s t u is may = within-leaves (Left s) s t u (λ r same. left-so s r 
 notin-left : (s : State) (t u : Tree) → IsState s → MaySettle s → LeavesSo (Left s) (notin_goal s t u)
 notin-left s t u is may = notin-leaves (Left s) s t u (λ r same. left-so s r (follows-notin s r t u same) (notin_may_settle s r t u is may same))
 
-posted-left : (s : State) (name : List ℕ) (ts : Trees) → IsState s → MaySettle s → TreesBelow (next s) ts → LeavesSo (Left s) (posting_goal s (comp name ts))
+pub posted-left : (s : State) (name : List ℕ) (ts : Trees) → IsState s → MaySettle s → TreesBelow (next s) ts → LeavesSo (Left s) (posting_goal s (comp name ts))
 posted-left s name ts is may below =
     posting-leaves (Left s) s (comp name ts) (λ r same. left-so s r (follows-posted s r (comp name ts) same) (posted_may_settle s r (comp name ts) is may (comp-below (next s) name ts below) same))
 
@@ -94,7 +94,7 @@ goal-left (ConstraintGoal.OfOne g) ts s e many is may below done = one-left g ts
 goal-left (ConstraintGoal.OfTwo g) ts s e many is may below done = two-left g ts s e many is may below done
 goal-left ConstraintGoal.Element ts s e many is may below done = element-left ts s e many is may below done
 
-leaves-by : (s : State) (e : Effect) → Rests s → LeavesSo (Left s) e → Leaves s e
+pub leaves-by : (s : State) (e : Effect) → Rests s → LeavesSo (Left s) e → Leaves s e
 leaves-by s (Succeeds r) rests left = left-by s r rests.calm rests.none_made left
 leaves-by s Fails rests left = tt
 leaves-by s (Writes text r) rests left = left

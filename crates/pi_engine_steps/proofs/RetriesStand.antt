@@ -16,7 +16,7 @@ use Rattle.pi_engine_arenas.specs.declared.arenas.Entry.{Entry}
 use Rattle.pi_meaning.specs.Machine.Configuration.{Frame, Called, Entry as EntryData, choice, rules_left, Strict, strict, guard_level, Back as BackData}
 use Rattle.pi_meaning.specs.Machine.Step.{silently, try_rules, back_to, end_step, fail_step}
 use Rattle.pi_engine_stands.specs.Here.{Here, HoldsArguments, GoesOn}
-use Rattle.pi_engine_stands.specs.Stands.{World, Loaded, tables_in, steps_of, entries_of, now_here, back_here, agrees_from, IsPredicateOf, IsCall, CallStands, KindIs, rules_kind, facts_kind, branches_kind, alternatives_kind, once_kind, not_kind, if_kind, guard_kind, apply_kind, collect_kind, count_kind, catch_kind, exit_kind, EntryIs, StackIs, Stands}
+use Rattle.pi_engine_stands.specs.Stands.{World, Loaded, tables_in, steps_of, entries_of, now_here, back_here, agrees_from, IsPredicateOf, IsCall, CallStands, KindIs, rules_kind, facts_kind, branches_kind, alternatives_kind, once_kind, not_kind, if_kind, guard_kind, apply_kind, collect_kind, count_kind, search_kind, catch_kind, exit_kind, EntryIs, StackIs, Stands}
 use Rattle.pi_engine_stands.specs.Tries.{own_entry, CallIs, TriesRules}
 use Rattle.pi_engine_stands.specs.Fails.{ComesTo, IsBack}
 use Rattle.pi_terms.proofs.ListLemmas.{take-take}
@@ -121,6 +121,7 @@ rules-shape l c h t base frame slots from to p r kind y named (guard_kind call f
 rules-shape l c h t base frame slots from to p r kind y named (apply_kind own free args fit one) = absurd cc
 rules-shape l c h t base frame slots from to p r kind y named (collect_kind own order some) = absurd cc
 rules-shape l c h t base frame slots from to p r kind y named (count_kind own one) = absurd cc
+rules-shape l c h t base frame slots from to p r kind y named (search_kind own labels held fit order one) = absurd cc
 rules-shape l c h t base frame slots from to p r kind y named (catch_kind own stays one) = absurd cc
 rules-shape l c h t base frame slots from to p r kind y named (exit_kind one) = absurd cc
 
@@ -179,6 +180,7 @@ guard-shape l c h t base frame slots from to p r kind s b named (guard_kind {p =
 guard-shape l c h t base frame slots from to p r kind s b named (apply_kind own free args fit one) = absurd cc
 guard-shape l c h t base frame slots from to p r kind s b named (collect_kind own order some) = absurd cc
 guard-shape l c h t base frame slots from to p r kind s b named (count_kind own one) = absurd cc
+guard-shape l c h t base frame slots from to p r kind s b named (search_kind own labels held fit order one) = absurd cc
 
 guard-step : (s : Strict) (called : Called) (c : ClauseTree) (cs : List ClauseTree) (b d : BackData) (es : List EntryData) → s ≡ guard_level called c cs → b ≡ d → end_step s b es ≡ try_rules called cs d es
 unfolding end_step

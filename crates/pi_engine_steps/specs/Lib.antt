@@ -1,2 +1,3 @@
 pub mod Done
+pub mod Rounds
 pub mod Facts

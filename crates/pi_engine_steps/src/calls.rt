@@ -209,11 +209,12 @@ fn call_site_of_level(strict: Strict) -> Option<CallSite>
         Strict::Guard(_, _) => None,
         Strict::Collect(_, _) => None,
         Strict::Count(_, _) => None,
+        Strict::Search(_) => None,
     }
 }
 
-/// What the level of a function call comes back to once it has its value: the caller's block, with nothing of the call's.
-fn to_caller(back: Back, caller: usize) -> Back
+/// What the level of a function call or of a search comes back to once it has its value: the caller's block, with nothing of the call's.
+pub(crate) fn to_caller(back: Back, caller: usize) -> Back
     ensures { result ≡ without_call back caller }
 {
     let blocks = BlocksMark {

@@ -50,7 +50,7 @@ pub fn constrain<S: StoredDomains>(
 }
 
 /// What a look says of all terms: they speak of variables that were made.
-fn see_terms<S: StateStore>(store: &S)
+pub(crate) fn see_terms<S: StateStore>(store: &S)
     ensures { (q : Ref) (t : Tree) → IsTerm (S.seen store.now) q t → SpeaksBelow (next (S.seen store.now).now.state) t }
 {
     let _root = store.look(Ref { number: 0 });

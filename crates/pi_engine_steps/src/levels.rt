@@ -16,8 +16,10 @@ use crate::labels::try_alternative;
 use crate::lists::{add_value, give_list};
 use crate::raises::no_value;
 use crate::rules::{call_of, retry, take_guarded};
+use crate::search::answer_search;
+use crate::search_ends::end_search;
 use crate::values::slot_at;
-use pi_constraints::{StateStore, StoredDomains};
+use pi_constraints::{KeptStates, StateStore};
 use pi_engine_arenas::{Back, End, Kind, Now, Point, Run, Strict, behind_level};
 use pi_engine_code::{Code, Node, Step};
 use pi_meaning::{Budget, Mode};
@@ -46,7 +48,7 @@ pub fn enter_level<S: StateStore>(
 
 /// The newest open level, which there is, has an answer.
 #[inline(never)]
-pub fn answer_level<S: StateStore>(code: &Code<'_>, run: &mut Run<S>) -> Result<(), AllocError>
+pub fn answer_level<S: KeptStates>(code: &Code<'_>, run: &mut Run<S>) -> Result<(), AllocError>
     ensures { IfOk result (λ _. ChangesBy S.seen S.order code.now run.old run.new AnswersOpen) }
 {
     let level = run.arenas.level;
@@ -82,7 +84,7 @@ pub fn answer_level<S: StateStore>(code: &Code<'_>, run: &mut Run<S>) -> Result<
 }
 
 /// What a strict level makes of an answer. A function call has its answer by a value, and none here.
-fn answer_strict<S: StateStore>(
+fn answer_strict<S: KeptStates>(
     code: &Code<'_>,
     run: &mut Run<S>,
     level: usize,
@@ -108,6 +110,7 @@ fn answer_strict<S: StateStore>(
         Strict::Guard(predicate, rule) => take_guarded(code, run, level, back, predicate, rule),
         Strict::Collect(place, _) => add_value(code, run, back, place),
         Strict::Count(place, count) => count_answer(run, level, place, count),
+        Strict::Search(site) => answer_search(code, run, level, back, site),
         Strict::Apply(_, _) => {
             run.now = Now::Failing;
             Ok(())
@@ -177,7 +180,7 @@ fn leave_catch<S: StateStore>(run: &mut Run<S>, level: usize, back: Back) -> Res
 
 /// Goes on with the newest entry where a goal has no further answer; without one the run is done. An alternative of a variable that is
 /// labelled counts a Tick.
-pub fn fail<S: StoredDomains>(
+pub fn fail<S: KeptStates>(
     code: &Code<'_>,
     mode: Mode,
     run: &mut Run<S>,
@@ -211,7 +214,7 @@ pub fn fail<S: StoredDomains>(
 /// Goes on with the newest entry, which was come back to and waits for neither a call's rules nor alternatives of a labelling. It
 /// stands by itself, so that an entry of rules is read in part alone.
 #[inline(never)]
-fn go_on_with<S: StateStore>(
+fn go_on_with<S: KeptStates>(
     code: &Code<'_>,
     run: &mut Run<S>,
     back: Back,
@@ -258,7 +261,7 @@ fn pass_over<S: StateStore>(run: &mut Run<S>, back: Back)
 
 /// The goal of a strict level, whose entry is the newest, has no further answer.
 #[inline(never)]
-fn end_strict<S: StateStore>(
+fn end_strict<S: KeptStates>(
     code: &Code<'_>,
     run: &mut Run<S>,
     back: Back,
@@ -284,6 +287,7 @@ fn end_strict<S: StateStore>(
         Strict::Apply(place, _) => no_value(code, run, back, place),
         Strict::Collect(place, first) => give_list(code, run, back, place, first),
         Strict::Count(place, count) => give_count(code, run, back, place, count),
+        Strict::Search(site) => end_search(run, back, site),
     }
 }
 

@@ -14,6 +14,8 @@ mod levels;
 mod lists;
 mod raises;
 mod rules;
+mod search;
+mod search_ends;
 mod settling;
 mod solve;
 mod terms;

@@ -242,6 +242,7 @@ fn collected_before_level(strict: Strict, count: usize) -> usize
         Strict::Guard(_, _) => count,
         Strict::Apply(_, _) => count,
         Strict::Count(_, _) => count,
+        Strict::Search(_) => count,
     }
 }
 

@@ -2,16 +2,17 @@
 ghost use Rattle.std.specs.Prelude.{◌≡◌, ℕ, IfOk};
 ghost use Rattle.pi_engine_code.specs.declared.code.Node.{Node};
 ghost use Rattle.pi_engine_stands.specs.Makes.{RunsGoal};
+ghost use Rattle.pi_engine_stands.specs.Searches.{LabelsOrSearches};
 ghost use Rattle.pi_engine_stands.specs.Solves.{Labels};
 ghost use Rattle.pi_engine_stands.specs.Changes.{Changes, ChangesBy};
 
 use crate::built_ins::raised;
 use crate::calls::take_arguments;
 use crate::choices::push_entry;
+use crate::search::search;
 use pi_constraints::StoredDomains;
 use pi_engine_arenas::{Alternatives, Kind, Now, Point, Run, behind};
 use pi_engine_code::{Code, Step};
-use pi_engine_facts::unknown_ball;
 use pi_lib_solve::{Asked, ask, confine, pick};
 use std::alloc::AllocError;
 
@@ -31,7 +32,7 @@ pub fn solve<S: StoredDomains>(
 {
     take_arguments(code, run, point.first_slot(step), operands, count)?;
     match ask(run.alloc, &run.store, &run.terms) {
-        Ok(asked) => label(run, point, step, asked),
+        Ok(asked) => label(code, run, point, step, asked),
         Err(stop) => {
             let ball = raised(run.alloc, &run.store, stop)?;
             run.now = Now::Raising(ball);
@@ -40,8 +41,25 @@ pub fn solve<S: StoredDomains>(
     }
 }
 
-/// Labels on: the variable that is picked leaves an entry for its alternatives. An objective isn't built.
+/// Labels, or begins a search.
 fn label<S: StoredDomains>(
+    code: &Code<'_>,
+    run: &mut Run<S>,
+    point: Point,
+    step: Step,
+    asked: Asked,
+) -> Result<(), AllocError>
+    ensures { IfOk result (λ _. ChangesBy S.seen S.order code.now run.old run.new
+        (LabelsOrSearches point step asked.options asked.items.items run.old.terms.items)) }
+{
+    match asked.options.objective {
+        Some(objective) => search(code, run, point, step, asked.options, objective),
+        None => label_plainly(run, point, step, asked),
+    }
+}
+
+/// Labels on: the variable that is picked leaves an entry for its alternatives.
+pub(crate) fn label_plainly<S: StoredDomains>(
     run: &mut Run<S>,
     point: Point,
     step: Step,
@@ -49,11 +67,6 @@ fn label<S: StoredDomains>(
 ) -> Result<(), AllocError>
     ensures { IfOk result (λ _. Changes S.seen S.order run.old run.new (Labels point step asked.options asked.items.items)) }
 {
-    if asked.options.objective.is_some() {
-        let ball = unknown_ball(run.alloc, "solve", 2)?;
-        run.now = Now::Raising(ball);
-        return Ok(());
-    }
     confine(run.alloc, &mut run.store, &asked.items)?;
     let Some(variable) = pick(&run.store, asked.options.variable, &asked.items) else {
         run.now = Now::Going(behind(point, step));

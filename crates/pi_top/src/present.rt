@@ -17,7 +17,7 @@ ghost use Rattle.pi_top.specs.QueryWords.{asked_query, begun_query, told_query};
 use crate::manner::Manner;
 use crate::query::{Stop, ended_behind_answers, next_told, run_of, write_answer, write_end};
 use crate::runs::Queries;
-use pi_constraints::{StateStore, StoredDomains};
+use pi_constraints::{KeptStates, StateStore};
 use pi_engine::{Budget, Happening, Machine};
 use pi_outside::Sink;
 use std::alloc::Global;
@@ -31,7 +31,7 @@ pub struct Present<'p, S: StateStore> {
 }
 
 /// Serves a request of a query, which is the last one that is listed.
-pub fn answer<'p, S: StoredDomains, O: Sink>(
+pub fn answer<'p, S: KeptStates, O: Sink>(
     alloc: Global,
     present: Present<'p, S>,
     manner: &Manner,
@@ -68,7 +68,7 @@ pub fn answer<'p, S: StoredDomains, O: Sink>(
 
 /// Writes the next answer of a machine or the line of its end, where so many answers were written before. Where it may be asked for more,
 /// the answer is how many are written now.
-fn write_next<S: StoredDomains, O: Sink>(
+fn write_next<S: KeptStates, O: Sink>(
     alloc: Global,
     machine: &mut Machine<'_, S>,
     budget: &mut Budget,

@@ -23,7 +23,7 @@ use crate::handed::write_text;
 use crate::manner::{Lines, Manner};
 use crate::runs::{Queries, QueryRun};
 use crate::starting::{Begun, begin};
-use pi_constraints::StoredDomains;
+use pi_constraints::KeptStates;
 use pi_core::{Answer, CoreProgram, CoreQuery};
 use pi_engine::{Budget, Happening, Machine};
 use pi_outside::{Failed, Sink};
@@ -77,7 +77,7 @@ pub fn run_query<O: Sink>(
 }
 
 /// The same over a store with the empty state.
-fn run_over<S: StoredDomains, O: Sink>(
+fn run_over<S: KeptStates, O: Sink>(
     alloc: Global,
     core: &CoreProgram,
     query: CoreQuery,
@@ -104,7 +104,7 @@ fn run_over<S: StoredDomains, O: Sink>(
 }
 
 /// Writes the answers that a machine gives, as many as are asked for at most, and the line of the end.
-fn write_answers<S: StoredDomains, O: Sink>(
+fn write_answers<S: KeptStates, O: Sink>(
     alloc: Global,
     machine: &mut Machine<'_, S>,
     budget: &mut Budget,
@@ -129,7 +129,7 @@ fn write_answers<S: StoredDomains, O: Sink>(
 }
 
 /// The next answer or end of a machine, behind the texts that it writes before it.
-pub fn next_told<S: StoredDomains, O: Sink>(
+pub fn next_told<S: KeptStates, O: Sink>(
     machine: &mut Machine<'_, S>,
     budget: &mut Budget,
     out: &mut O,

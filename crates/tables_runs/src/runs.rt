@@ -3,12 +3,11 @@
 
 use crate::goals::goal_of;
 use crate::programs::program_of;
+use pi_constraints::KeptStates;
 use pi_engine::{Budget, Happening, Kept, Machine, Mode};
 use pi_region::Words;
 use pi_store::RawStore;
-use pi_types::{
-    Answer, CorePreds, CoreProgram, CoreQuery, NameSlot, NameSlots, StoredDomains, Work,
-};
+use pi_types::{Answer, CorePreds, CoreProgram, CoreQuery, NameSlot, NameSlots, Work};
 use tables_cases::{Case, Problem, tell_domains};
 
 /// How many slots each query has.
@@ -64,7 +63,7 @@ fn names(case: &Case, count: u32) -> NameSlots {
 
 /// Runs a query on any store. This function alone owns a machine: it is generic, so that no proof goes through the parts of one
 /// kind of store.
-fn run<S: StoredDomains>(
+fn run<S: KeptStates>(
     case: &Case,
     core: &CoreProgram,
     query: CoreQuery,
@@ -85,7 +84,7 @@ fn run<S: StoredDomains>(
 }
 
 /// Tells all that comes in a run up to its end. Where the end doesn't come for good, so it says.
-fn tell_all<S: StoredDomains>(
+fn tell_all<S: KeptStates>(
     case: &Case,
     machine: &mut Machine<'_, S>,
     budget: &mut Budget,
@@ -104,7 +103,7 @@ fn tell_all<S: StoredDomains>(
 }
 
 /// Tells what comes next and the Ticks by then, and answers whether it is an end.
-fn tell_next<S: StoredDomains>(
+fn tell_next<S: KeptStates>(
     case: &Case,
     machine: &mut Machine<'_, S>,
     budget: &mut Budget,

@@ -37,6 +37,9 @@ returns-in-Collect g c = IfOk-weaker c.add_value.result _ _ (λ _ so l is_code i
 pub returns-in-Count : goal.returns-in-Count
 returns-in-Count g c = IfOk-weaker c.count_answer.result _ _ (λ _ so l is_code is named some. so l c.args.back is (named ∙ ap Kind.Strict c.in-Count.is)) c.count_answer.ensures
 
+pub returns-in-Search : goal.returns-in-Search
+returns-in-Search g c = IfOk-weaker c.answer_search.result _ _ (λ _ so l is_code is named some. so l is_code is (named ∙ ap Kind.Strict c.in-Search.is)) c.answer_search.ensures
+
 pub returns-in-Apply : goal.returns-in-Apply
 returns-in-Apply g c = λ l is_code is named some view names p e k es stands none last balanced.
     absurd (no-value-answer (world l (g.S.StateStore.seen c.args.run.now.store) g.S.StateStore.order (view_of c.args.run.now.arenas)) c.args.level c.args.back (Kind.Strict (Strict.Apply c.in-Apply.field-0 c.in-Apply.field-1)) p e k es is

@@ -31,3 +31,6 @@ returns-in-Collect g c = IfOk-weaker c.give_list.result _ _ (λ _ so l is_code n
 
 pub returns-in-Count : goal.returns-in-Count
 returns-in-Count g c = IfOk-weaker c.give_count.result _ _ (λ _ so l is_code named. so l is_code (named ∙ ap Kind.Strict c.in-Count.is)) c.give_count.ensures
+
+pub returns-in-Search : goal.returns-in-Search
+returns-in-Search g c = IfOk-weaker c.end_search.result _ _ (λ _ so l is_code named. so l (named ∙ ap Kind.Strict c.in-Search.is)) c.end_search.ensures

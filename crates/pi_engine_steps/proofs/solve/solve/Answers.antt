@@ -1,4 +1,4 @@
-use Rattle.std.proofs.Common.{◌≡◌, ◌∙◌, true, Some, Ok, Err, sym, ap, subst}
+use Rattle.std.proofs.Common.{◌≡◌, ◌∙◌, true, Some, sym, ap, subst}
 use Rattle.std.specs.Prelude.{slice_index_or}
 use Rattle.std.proofs.lemmas.Result.{IfOk-weaker}
 use Rattle.pi_terms.specs.Tree.{trees_of, tree_count}
@@ -23,6 +23,7 @@ use Rattle.pi_engine_stands.proofs.SolveFilled.{operands-filled}
 use Rattle.pi_engine_stands.proofs.SolveStands.{evaluated-stands, solve-runs, raises-here}
 use Rattle.pi_engine_stands.proofs.ValuesStand.{slots-of}
 use Rattle.pi_engine_steps.proofs.SolveAsked.{IsAnswered, answered-so, raises-so}
+use Rattle.pi_engine_steps.proofs.SolveRuns.{asked-two}
 use Rattle.pi_engine_steps.proofs.solve.solve.Goals as goal
 
 pub returns-in-Ok : goal.returns-in-Ok
@@ -60,7 +61,8 @@ returns-in-Ok g c = IfOk-weaker c.label.result _ _ (λ _ so name node l is_code 
     let there = evaluated-stands w v1 a1 p s name first count rs goal gs e k es node at stands evaluates rests in
     let filled = operands-filled T b first count e v.now.state readable.0 (slots-of v.now.terms a.blocks.slots b e is.behind.slots) in
     solve-runs w after v1 c.label.new.run.now p s name first count (labels found.0 found.1) view goal gs e k es node at stands solves evaluates.writes.state (asked.is ∙ ap (λ x. Some x) found.2)
-    (so l found.0 found.1 word args all.trees gs all.slots k es at found.3 found.4 filled there)) c.label.ensures
+    (so l is_code found.0 found.1 word args all.trees gs all.slots k es at found.3 found.4 evaluates.terms
+    (asked-two word all.trees v1.now.state found.0 found.1 rests.calm.state.acyclic solves (asked.is ∙ ap (λ x. Some x) found.2)) filled there)) c.label.ensures
 
 pub returns-in_ok-ball-in-Err : goal.returns-in_ok-ball-in-Err
 returns-in_ok-ball-in-Err g c = λ name node l is_code view goal gs e k es at stands.
